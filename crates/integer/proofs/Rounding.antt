@@ -1,0 +1,69 @@
+-- `nearest` by its bounds: the law of division rounded down, that only one number has those bounds, and the machine's division.
+-- What other crates may use of `nearest` stands in HalfUnit.antt.
+use mathlib.Core.Path.{_≡_, refl}
+use mathlib.Core.Bool.{Bool, true, false}
+use Prim.Native.Nat.{ℕ, suc, _*_, _/_, _<_, _≤_}
+use native.Mathlib.Nat.{div-add-mod, mod-lt}
+use native.Mathlib.Omega.{arith}
+use lib.IntN.{ℤ, pos, negsuc, natAbs, _+ℤ_, _*ℤ_, _-ℤ_}
+use lib.Signed.{_≤ℤ_, _<ℤ_, ltZ, quotZ, remZ}
+use mir.Val.{boolByte}
+use Rattle.integer.specs.Within.{_within_}
+use Rattle.integer.specs.Nearest.{floor, nearest}
+use Rattle.integer.proofs.Reading.{ints, _⇒_}
+use Rattle.integer.proofs.Laws.{cancel-<}
+
+-- 5/2, −5/2, −7/4, −6/4 and −5/4; 0/3; 1/2 and −1/2
+rounded :
+    (nearest (pos 5) 2 ≡ pos 3) × (nearest (negsuc 4) 2 ≡ negsuc 1) × (nearest (negsuc 6) 4 ≡ negsuc 1) × (nearest (negsuc 5) 4 ≡ negsuc 0)
+    × (nearest (negsuc 4) 4 ≡ negsuc 0) × (nearest (pos 0) 3 ≡ pos 0) × (nearest (pos 1) 2 ≡ pos 1) × (nearest (negsuc 0) 2 ≡ pos 0)
+unfolding nearest floor
+rounded = (refl, refl, refl, refl, refl, refl, refl, refl)
+
+-- ---- rounded down
+
+-- q is z / m, rounded down
+abbrev pub Floor : ℤ → ℕ → ℤ → Type 0
+Floor z m q = ((pos m *ℤ q) ≤ℤ z) × (z <ℤ (pos m *ℤ (q +ℤ pos 1)))
+
+pub floor-is : (z : ℤ) (m : ℕ) → 0 < m → Floor z m (floor z m)
+unfolding floor
+floor-is (pos a) m h = simp ints (omega (arith, div-add-mod a m, mod-lt a h))
+floor-is (negsuc a) m h = simp ints (omega (arith, div-add-mod a m, mod-lt a h))
+
+pub floor-only : (z q r : ℤ) (m : ℕ) → Floor z m q → Floor z m r → q ≡ r
+floor-only z q r m h k =
+    cancel-< (pos m) q (r +ℤ pos 1) (simp ints (omega arith)) (h ⇒ k ⇒ simp ints (omega arith)) ⇒
+    cancel-< (pos m) r (q +ℤ pos 1) (simp ints (omega arith)) (h ⇒ k ⇒ simp ints (omega arith)) ⇒
+    simp ints (omega arith)
+
+-- ---- to the nearest
+
+-- q is a / b to the nearest, a half up: b·(2q − 1) ≤ 2a < b·(2q + 1)
+abbrev pub Nearest : ℤ → ℕ → ℤ → Type 0
+Nearest a b q = ((pos 2 *ℤ pos b *ℤ q) ≤ℤ (pos 2 *ℤ a +ℤ pos b)) × ((pos 2 *ℤ a +ℤ pos b) <ℤ (pos 2 *ℤ pos b *ℤ (q +ℤ pos 1)))
+
+pub nearest-is : (a : ℤ) (b : ℕ) → 0 < b → Nearest a b (nearest a b)
+unfolding nearest
+nearest-is a b h = floor-is (pos 2 *ℤ a +ℤ pos b) (2 * b) (omega arith)
+
+pub nearest-only : (a : ℤ) (b : ℕ) (q : ℤ) → 0 < b → Nearest a b q → q ≡ nearest a b
+nearest-only a b q h k = floor-only (pos 2 *ℤ a +ℤ pos b) q (nearest a b) (2 * b) k (nearest-is a b h)
+
+-- ---- division toward zero, as the machine divides
+
+quot-rem : (z : ℤ) (m : ℕ) → pos m *ℤ quotZ z (pos m) +ℤ remZ z (pos m) ≡ z
+quot-rem (pos a) m = simp ints (omega (arith, div-add-mod a m))
+quot-rem (negsuc a) m = simp ints (omega (arith, div-add-mod (suc a) m))
+
+rem-range : (z : ℤ) (m : ℕ) → 0 < m → natAbs (remZ z (pos m)) < m
+rem-range (pos a) m h = mod-lt a h
+rem-range (negsuc a) m h = simp ints (omega (arith, mod-lt (suc a) h))
+
+-- one less where the remainder is negative: the division rounded down
+pub floor-quot : (z : ℤ) (m : ℕ) → 0 < m → quotZ z (pos m) -ℤ pos (boolByte (ltZ (remZ z (pos m)) (pos 0))) ≡ floor z m
+floor-quot z m h = floor-only z _ (floor z m) m (by (ltZ (remZ z (pos m)) (pos 0)) refl) (floor-is z m h)
+  where
+    by : (t : Bool) → ltZ (remZ z (pos m)) (pos 0) ≡ t → Floor z m (quotZ z (pos m) -ℤ pos (boolByte t))
+    by true e = e ⇒ quot-rem z m ⇒ rem-range z m h ⇒ simp ints (omega arith)
+    by false e = e ⇒ quot-rem z m ⇒ rem-range z m h ⇒ simp ints (omega arith)

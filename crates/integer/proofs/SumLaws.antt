@@ -1,0 +1,46 @@
+-- Laws of sums: of differences and multiples, of equal terms, and bounds on the size.
+use mathlib.Core.Path.{_≡_, refl}
+use Prim.Native.Nat.{ℕ, zero, suc, _+_, _*_, _<_}
+use native.Mathlib.Numerals.{add-one}
+use native.Mathlib.Omega.{arith}
+use lib.IntN.{ℤ, pos, natAbs, _+ℤ_, _*ℤ_, _-ℤ_}
+use Rattle.integer.specs.Within.{_within_}
+use Rattle.integer.specs.Sum.{sum}
+use Rattle.integer.proofs.Reading.{ints}
+use Rattle.integer.proofs.Laws.{within-≤, within-+, within-*, within-self}
+
+pub sum-next : (n : ℕ) (f : ℕ → ℤ) → sum (n + 1) f ≡ sum n f +ℤ f n
+unfolding sum
+sum-next n f = rw add-one
+
+pub sum-same : (f g : ℕ → ℤ) (n : ℕ) → ((k : ℕ) → k < n → f k ≡ g k) → sum n f ≡ sum n g
+unfolding sum
+sum-same f g zero h = refl
+sum-same f g (suc n) h = rw (sum-same f g n (λ k l. h k (omega arith)), h n (omega arith))
+
+pub sum-- : (f g : ℕ → ℤ) (n : ℕ) → sum n (λ k. f k -ℤ g k) ≡ sum n f -ℤ sum n g
+unfolding sum
+sum-- f g zero = refl
+sum-- f g (suc n) = rw (sum-- f g n) (simp ints (omega arith))
+
+pub sum-times : (a : ℤ) (f : ℕ → ℤ) (n : ℕ) → sum n (λ k. a *ℤ f k) ≡ a *ℤ sum n f
+unfolding sum
+sum-times a f zero = simp ints (omega arith)
+sum-times a f (suc n) = rw (sum-times a f n) (simp ints (omega arith))
+
+pub sum-within : (b n : ℕ) (f : ℕ → ℤ) → ((k : ℕ) → k < n → f k within b) → sum n f within (n * b)
+unfolding sum
+sum-within b zero f h = simp ints (omega arith)
+sum-within b (suc n) f h = within-≤ (within-+ (sum-within b n f (λ k l. h k (omega arith))) (h n (omega arith))) (omega arith)
+
+-- |f 0| + .. + |f (n - 1)|
+unfoldable pub weight : ℕ → (ℕ → ℤ) → ℕ
+weight zero f = 0
+weight (suc n) f = weight n f + natAbs (f n)
+
+-- a weighted sum of numbers within b
+pub weighted : (t u : ℕ → ℤ) (b n : ℕ) → ((k : ℕ) → k < n → u k within b) → sum n (λ k. t k *ℤ u k) within (weight n t * b)
+unfolding sum weight
+weighted t u b zero h = simp ints (omega arith)
+weighted t u b (suc n) h =
+    within-≤ (within-+ (weighted t u b n (λ k l. h k (omega arith))) (within-* (within-self (t n)) (h n (omega arith)))) (omega arith)

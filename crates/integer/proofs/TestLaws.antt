@@ -1,0 +1,85 @@
+-- From a test that computes to the fact at each place, and back.
+use mathlib.Core.Path.{_≡_, refl}
+use mathlib.Core.Bool.{Bool, true, false, cond, _&&_}
+use mathlib.Core.List.{List, [], _∷_, _++_}
+use Prim.Native.Nat.{ℕ, zero, suc, _<_}
+use native.Mathlib.Omega.{arith}
+use lib.Dec.{T}
+use lib.ListN.{getD, drop}
+use lib.IntN.{ℤ}
+use lib.Signed.{leZ, leZ-yes}
+use Rattle.integer.specs.Tests.{hold, every, each, eqZ, Each, none, _&_}
+use Rattle.integer.proofs.Reading.{ints, _⇒_}
+
+-- ---- single tests
+
+pub split : (a b : Bool) → T (a && b) → T a × T b
+split true b t = (tt, t)
+split false b t = absurd t
+
+pub pair : (a b : Bool) → T a → T b → T (a && b)
+pair true b h k = k
+pair false b h k = absurd h
+
+-- a test that is only made where a holds, or where it does not
+pub when : (a b : Bool) → T (cond a b true) → a ≡ true → T b
+when a b t e = rw e at t
+
+pub is-true : {b : Bool} → T b → b ≡ true
+is-true {b = true} h = refl
+is-true {b = false} h = absurd h
+
+pub is-false : {b : Bool} → (T b → ⊥) → b ≡ false
+is-false {b = true} h = absurd (h tt)
+is-false {b = false} h = refl
+
+pub eqZ→≡ : (x y : ℤ) → T (eqZ x y) → x ≡ y
+unfolding eqZ
+eqZ→≡ x y h =
+    let k = split (leZ x y) (leZ y x) h in
+    leZ-yes {a = x} {b = y} (k .0) ⇒ leZ-yes {a = y} {b = x} (k .1) ⇒ simp ints (omega arith)
+
+-- ---- lists of tests, and tests at every number
+
+pub hold-at : (bs : List Bool) → T (hold bs) → (k : ℕ) → T (getD bs k true)
+hold-at [] h k = tt
+hold-at (b ∷ bs) h zero = split b (hold bs) h .0
+hold-at (b ∷ bs) h (suc k) = hold-at bs (split b (hold bs) h .1) k
+
+pub every-at : (n : ℕ) (t : ℕ → Bool) → T (every n t) → (k : ℕ) → k < n → T (t k)
+every-at zero t h k l = absurd (omega arith)
+every-at (suc n) t h zero l = split (t zero) (every n (λ k. t (suc k))) h .0
+every-at (suc n) t h (suc k) l = every-at n (λ k. t (suc k)) (split (t zero) (every n (λ k. t (suc k))) h .1) k (omega arith)
+
+pub every-of : (n : ℕ) (t : ℕ → Bool) → ((k : ℕ) → k < n → T (t k)) → T (every n t)
+every-of zero t h = tt
+every-of (suc n) t h = pair (t zero) (every n (λ k. t (suc k))) (h zero (omega arith)) (every-of n (λ k. t (suc k)) (λ k l. h (suc k) (omega arith)))
+
+-- ---- what holds of each element
+
+pub hold-of : {bs : List Bool} → Each T bs → T (hold bs)
+hold-of none = tt
+hold-of (_&_ {a = b} {l = bs} h k) = pair b (hold bs) h (hold-of k)
+
+module _ {A : Type 0} {P : A → Type 0} where
+  pub each-append : {l m : List A} → Each P l → Each P m → Each P (l ++ m)
+  each-append none k = k
+  each-append (p & h) k = p & each-append h k
+
+  pub each-drop : {l : List A} → Each P l → (n : ℕ) → Each P (drop n l)
+  each-drop h zero = h
+  each-drop none (suc n) = none
+  each-drop (p & h) (suc n) = each-drop h n
+
+  pub each-get : {l : List A} → Each P l → {d : A} → P d → (k : ℕ) → P (getD l k d)
+  each-get none e k = e
+  each-get (p & h) e zero = p
+  each-get (p & h) e (suc k) = each-get h e k
+
+  pub each-test : (f : A → Bool) → ((a : A) → P a → T (f a)) → {l : List A} → Each P l → T (each f l)
+  each-test f g none = tt
+  each-test f g (_&_ {a = a} {l = l} p h) = pair (f a) (each f l) (g a p) (each-test f g h)
+
+  pub test-each : (f : A → Bool) → ((a : A) → T (f a) → P a) → (l : List A) → T (each f l) → Each P l
+  test-each f g [] h = none
+  test-each f g (a ∷ l) h = g a (split (f a) (each f l) h .0) & test-each f g l (split (f a) (each f l) h .1)

@@ -1,0 +1,5 @@
+pub mod Within
+pub mod Nearest
+pub mod Root
+pub mod Sum
+pub mod Tests
