@@ -2,4 +2,5 @@ pub mod Within
 pub mod Nearest
 pub mod Root
 pub mod Sum
+pub mod Lists
 pub mod Tests

@@ -1,0 +1,227 @@
+// Blocks of 512 bytes: the refusals and their numbers, the check, little-endian numbers, runs of zeros.
+
+ghost use mathlib.Core.Path.{_≡_};
+ghost use mathlib.Core.List.{_∷_, []};
+ghost use Prim.Native.Nat.{_+_, _≤_, _<_, _%_};
+ghost use lib.ListN.{length, take, drop};
+ghost use Rattle.block.specs.Refusals.{numberOf};
+ghost use Rattle.block.specs.Bytes.{u16At, u32At, signed as signedOf, i16At, bytes16, bytes32, bits as bitsOf, zeros as zerosOf};
+ghost use Rattle.block.specs.Block.{sumsOf, checked as checkedOf, sealed, placed};
+
+// The refusals, in the order of their numbers 1 to 14.
+pub enum Refusal {
+    // A block that is not 512 bytes.
+    Length,
+    // A wrong check.
+    Check,
+    // A wrong mark or first byte.
+    Mark,
+    // A number of ends that is not 2 to 4.
+    Ends,
+    // A setting field or zero byte outside its rule: the offset of its first byte.
+    Field(u16),
+    // A factor above 16.
+    FactorHigh,
+    // The second largest factor below 0.5.
+    FactorsLow,
+    // More than 21 sets.
+    Sets,
+    // A byte of a sample block that must be zero and is not.
+    Spare,
+    // A sample beyond 32,000.
+    Reach,
+    // A sample of an unused end that is not zero.
+    Unused,
+    // A relay record that is not admissible.
+    Record,
+    // A buffer that ends before the block does.
+    Room,
+    // A set that is not 12 numbers, or a list that is not 0 to 21 whole sets.
+    Count,
+}
+
+// The number of a refusal in the table.
+pub fn number(r: Refusal) -> u8
+    ensures { λ n. ⌜ n ≡ numberOf r ⌝ }
+{
+    match r {
+        Refusal::Length => 1,
+        Refusal::Check => 2,
+        Refusal::Mark => 3,
+        Refusal::Ends => 4,
+        Refusal::Field(_) => 5,
+        Refusal::FactorHigh => 6,
+        Refusal::FactorsLow => 7,
+        Refusal::Sets => 8,
+        Refusal::Spare => 9,
+        Refusal::Reach => 10,
+        Refusal::Unused => 11,
+        Refusal::Record => 12,
+        Refusal::Room => 13,
+        Refusal::Count => 14,
+    }
+}
+
+// A writer's answer.
+pub enum Written {
+    Done,
+    Refused(Refusal),
+}
+
+// The two sums of the check.
+pub struct Sums {
+    pub a: u8,
+    pub b: u8,
+}
+
+fn wide(x: u8) -> u16
+    ensures { λ r. ⌜ (r ≡ x) × (r < 256) ⌝ }
+{
+    x as u16
+}
+
+fn wider(x: u8) -> u32
+    ensures { λ r. ⌜ (r ≡ x) × (r < 256) ⌝ }
+{
+    x as u32
+}
+
+// The sums of some bytes.
+pub fn check_sums(s: &[u8]) -> Sums
+    ensures { λ r. ⌜ r ≡ sumsOf (now (s .entry)) ⌝ }
+{
+    let mut a: u16 = 0;
+    let mut b: u16 = 0;
+    let mut i: usize = 0;
+    while i < s.len() {
+        a = (a + wide(s[i])) % 255;
+        b = (b + a) % 255;
+        i += 1;
+    }
+    Sums {
+        a: a as u8,
+        b: b as u8,
+    }
+}
+
+// Whether the last two bytes of a block are its check.
+pub fn checked(s: &[u8]) -> bool
+    requires { ⌜ length (now s) ≡ 512 ⌝ }
+    ensures { λ r. ⌜ r ≡ checkedOf (now (s .entry)) ⌝ }
+{
+    let c = check_sums(&s[..510]);
+    if s[510] != c.a {
+        return false;
+    }
+    s[511] == c.b
+}
+
+// The block with its check put in.
+pub fn seal(b: [u8; 512]) -> [u8; 512]
+    ensures { λ r. ⌜ r ≡ sealed (take 510 b) ⌝ }
+{
+    let c = check_sums(&b[..510]);
+    let mut t = b;
+    t[510] = c.a;
+    t[511] = c.b;
+    t
+}
+
+// Puts a block at the start of a buffer.
+pub fn place(buffer: &mut [u8], b: [u8; 512])
+    requires { ⌜ 512 ≤ length (now buffer) ⌝ }
+    ensures { λ _. ⌜ now (buffer .exit) ≡ placed (now (buffer .entry)) b ⌝ }
+{
+    let mut i: usize = 0;
+    while i < 512 {
+        let x = b[i];
+        buffer[i] = x;
+        i += 1;
+    }
+}
+
+// Whether every byte is zero, looked at from the last to the first.
+pub fn zeros(s: &[u8]) -> bool
+    ensures { λ r. ⌜ r ≡ zerosOf (now (s .entry)) ⌝ }
+{
+    let mut left = s.len();
+    while 0 < left {
+        left -= 1;
+        if s[left] != 0 {
+            return false;
+        }
+    }
+    true
+}
+
+// The number of two bytes from a place on.
+pub fn u16_at(s: &[u8], at: usize) -> u16
+    requires { ⌜ at + 1 < length (now s) ⌝ }
+    ensures { λ r. ⌜ r ≡ u16At (now (s .entry)) at ⌝ }
+{
+    wide(s[at]) + 256 * wide(s[at + 1])
+}
+
+// The number of four bytes from a place on.
+pub fn u32_at(s: &[u8], at: usize) -> u32
+    requires { ⌜ at + 3 < length (now s) ⌝ }
+    ensures { λ r. ⌜ r ≡ u32At (now (s .entry)) at ⌝ }
+{
+    wider(s[at]) + 256 * wider(s[at + 1]) + 65536 * wider(s[at + 2]) + 16777216 * wider(s[at + 3])
+}
+
+// The signed number whose 16 bits are n.
+pub fn signed(n: u16) -> i16
+    ensures { λ r. ⌜ r ≡ signedOf n ⌝ }
+{
+    if n < 32768 {
+        n as i16
+    } else {
+        -1 - (65535 - n) as i16
+    }
+}
+
+// The signed number of two bytes from a place on.
+pub fn i16_at(s: &[u8], at: usize) -> i16
+    requires { ⌜ at + 1 < length (now s) ⌝ }
+    ensures { λ r. ⌜ r ≡ i16At (now (s .entry)) at ⌝ }
+{
+    signed(u16_at(s, at))
+}
+
+// The 16 bits of a signed number.
+pub fn bits(x: i16) -> u16
+    ensures { λ r. ⌜ r ≡ bitsOf x ⌝ }
+{
+    if x < 0 {
+        65535 - (-1 - x) as u16
+    } else {
+        x as u16
+    }
+}
+
+// The two bytes of a number.
+pub fn bytes_16(x: u16) -> [u8; 2]
+    ensures { λ r. ⌜ r ≡ bytes16 x ⌝ }
+{
+    [(x % 256) as u8, (x / 256 % 256) as u8]
+}
+
+// The four bytes of a number.
+pub fn bytes_32(x: u32) -> [u8; 4]
+    ensures { λ r. ⌜ r ≡ bytes32 x ⌝ }
+{
+    [
+        (x % 256) as u8,
+        (x / 256 % 256) as u8,
+        (x / 65536 % 256) as u8,
+        (x / 16777216 % 256) as u8,
+    ]
+}
+
+// The two bytes of a signed number.
+pub fn bytes_i16(x: i16) -> [u8; 2]
+    ensures { λ r. ⌜ r ≡ bytes16 (bitsOf x) ⌝ }
+{
+    bytes_16(bits(x))
+}
