@@ -12,19 +12,19 @@ use Rattle.block.specs.declared.Sums.{Sums}
 use Rattle.block.specs.Block.{sumsFrom}
 use Rattle.block.proofs.Places.{drop-next}
 
--- a loop that returns false at the first element that fails the test t, and true at the end
-module _ {ℓ} {A : Type ℓ} (t : A → Bool) (s : List A) (i : ℕ) (inv : each t (drop i s) ≡ each t s) where
+-- a loop that returns false at the first element that fails the test t, and true at the end: what is left gives the answer r
+module _ {ℓ} {A : Type ℓ} (t : A → Bool) (s : List A) (i : ℕ) {r : Bool} (inv : each t (drop i s) ≡ r) where
   module _ (h : i < length s) (d : A) where
-    here : each t s ≡ (t (getD s i d) && each t (drop (i + 1) s))
+    here : r ≡ (t (getD s i d) && each t (drop (i + 1) s))
     here = sym inv ∙ ap (each t) (drop-next s i d h)
 
-    pub each-stop : t (getD s i d) ≡ false → false ≡ each t s
+    pub each-stop : t (getD s i d) ≡ false → false ≡ r
     each-stop e = sym (here ∙ rw e)
 
-    pub each-more : t (getD s i d) ≡ true → each t (drop (i + 1) s) ≡ each t s
+    pub each-more : t (getD s i d) ≡ true → each t (drop (i + 1) s) ≡ r
     each-more e = sym (here ∙ rw e)
 
-  pub each-done : length s ≤ i → true ≡ each t s
+  pub each-done : length s ≤ i → true ≡ r
   each-done h = sym (ap (each t) (drop-of-length-le s h)) ∙ inv
 
 -- a loop that goes down from the end, with what stands from i on tested already

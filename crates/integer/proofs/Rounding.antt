@@ -1,13 +1,11 @@
 -- `nearest` by its bounds: the law of division rounded down, that only one number has those bounds, and the machine's division.
 -- What other crates may use of `nearest` stands in HalfUnit.antt.
 use mathlib.Core.Path.{_≡_, refl}
-use mathlib.Core.Bool.{Bool, true, false}
 use Prim.Native.Nat.{ℕ, suc, _*_, _/_, _<_, _≤_}
 use native.Mathlib.Nat.{div-add-mod, mod-lt}
 use native.Mathlib.Omega.{arith}
 use lib.IntN.{ℤ, pos, negsuc, natAbs, _+ℤ_, _*ℤ_, _-ℤ_}
-use lib.Signed.{_≤ℤ_, _<ℤ_, ltZ, quotZ, remZ}
-use mir.Val.{boolByte}
+use lib.Signed.{_≤ℤ_, _<ℤ_, quotZ, remZ}
 use Rattle.integer.specs.Within.{_within_}
 use Rattle.integer.specs.Nearest.{floor, nearest}
 use Rattle.integer.proofs.Reading.{ints, _⇒_}
@@ -61,9 +59,9 @@ rem-range (pos a) m h = mod-lt a h
 rem-range (negsuc a) m h = simp ints (omega (arith, mod-lt (suc a) h))
 
 -- one less where the remainder is negative: the division rounded down
-pub floor-quot : (z : ℤ) (m : ℕ) → 0 < m → quotZ z (pos m) -ℤ pos (boolByte (ltZ (remZ z (pos m)) (pos 0))) ≡ floor z m
-floor-quot z m h = floor-only z _ (floor z m) m (by (ltZ (remZ z (pos m)) (pos 0)) refl) (floor-is z m h)
-  where
-    by : (t : Bool) → ltZ (remZ z (pos m)) (pos 0) ≡ t → Floor z m (quotZ z (pos m) -ℤ pos (boolByte t))
-    by true e = e ⇒ quot-rem z m ⇒ rem-range z m h ⇒ simp ints (omega arith)
-    by false e = e ⇒ quot-rem z m ⇒ rem-range z m h ⇒ simp ints (omega arith)
+module _ (z : ℤ) (m : ℕ) (h : 0 < m) where
+  pub floor-less : remZ z (pos m) <ℤ pos 0 → quotZ z (pos m) -ℤ pos 1 ≡ floor z m
+  floor-less k = floor-only z _ (floor z m) m (k ⇒ quot-rem z m ⇒ rem-range z m h ⇒ simp ints (omega arith)) (floor-is z m h)
+
+  pub floor-same : pos 0 ≤ℤ remZ z (pos m) → quotZ z (pos m) ≡ floor z m
+  floor-same k = floor-only z _ (floor z m) m (k ⇒ quot-rem z m ⇒ rem-range z m h ⇒ simp ints (omega arith)) (floor-is z m h)

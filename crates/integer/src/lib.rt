@@ -14,7 +14,8 @@ pub fn nearest(a: i64, b: u64) -> i64
     let d = b as i64;
     let t = 2 * a + d;
     let m = 2 * d;
-    t / m - (t % m < 0) as i64
+    let q = t / m;
+    if t % m < 0 { q - 1 } else { q }
 }
 
 // The largest r whose square is at most x, a binary digit a turn from the top: half as many turns

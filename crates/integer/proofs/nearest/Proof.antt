@@ -4,14 +4,15 @@ use mathlib.Core.Path.{refl}
 use native.Mathlib.Omega.{arith}
 use Prim.Native.Nat.{ℕ, _*_, _^_}
 use lib.IntN.{ℤ, pos, _+ℤ_, _-ℤ_, _*ℤ_}
-use lib.Signed.{ltZ, quotZ, remZ}
+use mathlib.Core.Bool.{Bool}
+use lib.Signed.{quotZ, remZ}
 use mir.Syntax.{w64}
 use mir.Val.{SFits, boolByte}
 use Rattle.integer.proofs.Reading.{ints, arithℤ, _⇒_}
 use Rattle.integer.proofs.Machine.{back, flag-back, flag-within, quot-within, rem-within, back-within}
 use Rattle.integer.specs.Within.{_within_}
 use Rattle.integer.specs.Nearest.{nearest}
-use Rattle.integer.proofs.Rounding.{floor-quot}
+use Rattle.integer.proofs.Rounding.{floor-less, floor-same}
 use Rattle.integer.proofs.nearest.Statement.{statement}
 use Rattle.integer.proofs.nearest.Tie as tie
 
@@ -40,28 +41,33 @@ module _ (c : tie.Start) where
   q-fits : SFits w64 (quotZ t (pos m))
   q-fits = quot-within t-small m ⇒ simp ints (omega arith)
 
-  r-fits : SFits w64 (quotZ t (pos m) -ℤ pos (boolByte (ltZ (remZ t (pos m)) (pos 0))))
-  r-fits = quot-within t-small m ⇒ flag-within (ltZ (remZ t (pos m)) (pos 0)) ⇒ simp ints (omega arith)
+div-q : tie.Need-div-q
+div-q c = rw (back (add-t c), back (mul-m c), back (mul-t c), back (c .fits .a), back (cast-d c)) (omega arith, q-fits c)
 
-div-result : tie.Need-div-result
-div-result c = rw (back (add-t c), back (mul-m c), back (mul-t c), back (c .fits .a), back (cast-d c)) (omega arith, q-fits c)
-
-rem-result : tie.Need-rem-result
-rem-result c = div-result c
-
-cast-result : tie.Need-cast-result
-cast-result c = search needs
+rem-if1 : tie.Need-rem-if1
+rem-if1 c = div-q c
 
 sub-result : tie.Need-sub-result
 sub-result c =
-    rw (flag-back, back (add-t c), back (mul-m c), back (mul-t c), back (c .fits .a), back (cast-d c), back (q-fits c), back-within (rem-within (t-small c) (m c)) w64 refl)
-    (r-fits c)
+    let s = c .before in
+    rw (back (add-t s), back (mul-m s), back (mul-t s), back (s .fits .a), back (cast-d s), back (q-fits s))
+    (quot-within (t-small s) (m s) ⇒ simp ints (omega arith))
 
 returns : tie.Need-returns
 unfolding nearest
 returns c =
-    rw (flag-back, back (add-t c), back (mul-m c), back (mul-t c), back (c .fits .a), back (cast-d c), back (q-fits c), back-within (rem-within (t-small c) (m c)) w64 refl, back (r-fits c))
-    (floor-quot (t c) (m c) (omega arith))
+    let s = c .before in
+    let test = rw (back (add-t s), back (mul-m s), back (mul-t s), back (s .fits .a), back (cast-d s), back-within (rem-within (t-small s) (m s)) w64 refl) at (c .if1 .taken) in
+    rw (back (sub-result c), back (add-t s), back (mul-m s), back (mul-t s), back (s .fits .a), back (cast-d s), back (q-fits s))
+    (floor-less (t s) (m s) (omega arith) (test ⇒ simp ints (omega arith)))
+
+returns-2 : tie.Need-returns-2
+unfolding nearest
+returns-2 c =
+    let s = c .before in
+    let test = rw (back (add-t s), back (mul-m s), back (mul-t s), back (s .fits .a), back (cast-d s), back-within (rem-within (t-small s) (m s)) w64 refl) at (c .if1 .left) in
+    rw (back (add-t s), back (mul-m s), back (mul-t s), back (s .fits .a), back (cast-d s), back (q-fits s))
+    (floor-same (t s) (m s) (omega arith) (test ⇒ simp ints (omega arith)))
 
 pub nearest-spec : {M : Type 1} → statement M
-nearest-spec = tie.close (tie.spec cast-d mul-t add-t mul-m div-result rem-result cast-result sub-result returns)
+nearest-spec = tie.close (tie.spec cast-d mul-t add-t mul-m div-q rem-if1 sub-result returns returns-2)
