@@ -19,15 +19,10 @@ fn u64_at(s: &[u8], at: usize) -> u64
     low + 4294967296 * high
 }
 
-fn magnitude(x: i64) -> u64 {
-    if x < 0 { 1 + (-1 - x) as u64 } else { x as u64 }
-}
-
 fn print_signed(x: i64) {
-    if x < 0 {
-        io::write_all(STDOUT_FILENO, b"-");
-    }
-    io::print_decimal(STDOUT_FILENO, magnitude(x));
+    let mut buffer = [0u8; 32];
+    let at = text::put_signed(&mut buffer, 0, x);
+    text::flush(&buffer, at);
 }
 
 fn print_nearest(minus: bool, a: u64, b: u64) {

@@ -1,4 +1,4 @@
--- `arithmetic::magnitude` is safe: −1 − x of a negative x is at least 0 and below 2 ^ 63.
+-- `text::magnitude` is safe: −1 − x of a negative x is at least 0 and below 2 ^ 63.
 use borrow.Author.Needs.{needs}
 use native.Mathlib.Omega.{arith}
 use mathlib.Core.Path.{_≡_}
@@ -7,8 +7,8 @@ use lib.IntN.{pos, negsuc, _-ℤ_}
 use lib.Signed.{ltZ, natAbs-le}
 use Rattle.integer.proofs.Reading.{ints, arithℤ}
 use Rattle.integer.proofs.Machine.{back}
-use Rattle.arithmetic.proofs.magnitude.Statement.{statement}
-use Rattle.arithmetic.proofs.magnitude.Tie as tie
+use Rattle.text.proofs.magnitude.Statement.{statement}
+use Rattle.text.proofs.magnitude.Tie as tie
 
 negative : (c : tie.Then1) → ltZ (c .before .args .x) (pos 0) ≡ true
 negative c = rw (back (c .before .fits .x)) at (c .if1 .taken)

@@ -1,0 +1,3 @@
+pub mod Amplitude
+pub mod Sized
+pub mod Peak

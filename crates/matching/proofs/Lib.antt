@@ -1,0 +1,5 @@
+mod Bits
+mod Forms
+mod Rows
+mod OneEnd
+pub mod Total

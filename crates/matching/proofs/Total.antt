@@ -1,0 +1,75 @@
+-- Over the ends of a healthy bank the matched numbers sum to within 13·E, since w sums to zero there; and of any accepted set each is within 761,874.
+use mathlib.Core.Path.{_≡_, refl, sym, _∙_}
+use mathlib.Core.List.{List}
+use Prim.Native.Nat.{ℕ, _*_, _<_}
+use native.Mathlib.Omega.{arith}
+use lib.IntN.{ℤ, pos, _*ℤ_, _-ℤ_}
+use Rattle.integer.specs.Within.{_within_}
+use Rattle.integer.specs.Nearest.{Near}
+use Rattle.integer.specs.Sum.{sum}
+use Rattle.integer.proofs.Reading.{ints, _⇒_}
+use Rattle.integer.proofs.Laws.{within-≤, within-is, cancel-times}
+use Rattle.integer.proofs.SumLaws.{sum--, sum-times, sum-within}
+use Rattle.integer.proofs.HalfUnit.{nearest-near}
+use Rattle.setting.specs.declared.Setting.{Setting}
+use Rattle.setting.specs.Values.{endOf, above, below, factor}
+use Rattle.setting.proofs.LimitLaws.{Startable}
+use Rattle.matching.specs.Matching.{Three, sum3}
+use Rattle.matching.specs.Sets.{System, sysA, sysB, sysC, turned, seen, phases, filtered, matchedAt}
+use Rattle.matching.specs.Bank.{NearIdeal, Healthy, InReach, total}
+use Rattle.matching.specs.Sized.{Sampled}
+use Rattle.matching.proofs.Rows.{row}
+use Rattle.matching.proofs.OneEnd.{rest-gone, one-size, one-end}
+
+-- what holds of each phase, as the phase sees the three, holds of the three that a system sees
+module _ (R : Three → Three → Type 0) (x w : Three) (h : (l : System) → R (seen l x) (seen l w)) where
+  around : (l : System) → R (seen l x) (seen l w) × R (turned (seen l x)) (turned (seen l w)) × R (turned (turned (seen l x))) (turned (turned (seen l w)))
+  unfolding seen
+  around sysA = (h sysA, h sysB, h sysC)
+  around sysB = (h sysB, h sysC, h sysA)
+  around sysC = (h sysC, h sysA, h sysB)
+
+seen-sum : (w : Three) (l : System) → sum3 (seen l w) ≡ sum3 w
+unfolding seen
+seen-sum w sysA = refl
+seen-sum w sysB = simp ints (omega arith)
+seen-sum w sysC = simp ints (omega arith)
+
+-- a sum of numbers, each within b of a thousandth of one of which the sum is 0
+sum-close : (f w : ℕ → ℤ) (n b : ℕ) → ((z : ℕ) → z < n → (pos 1000 *ℤ f z -ℤ w z) within (1000 * b)) → sum n w ≡ pos 0 → sum n f within (b * n)
+sum-close f w n b h e =
+    let eq : sum n (λ z. pos 1000 *ℤ f z -ℤ w z) ≡ pos 1000 *ℤ sum n f =
+    sum-- (λ z. pos 1000 *ℤ f z) w n ∙ rw (sum-times (pos 1000) f n, e) (simp ints (omega arith)) in
+    cancel-times {k = 1000} (omega arith) (within-≤ (within-is (sym eq) (sum-within (1000 * b) n (λ z. pos 1000 *ℤ f z -ℤ w z) h)) (omega arith))
+
+module _ (v : Setting) (ok : Startable v) (xs : List ℤ) (reach : InReach v xs) where
+  -- an end in use, as a system sees it
+  pub sampled : (z : ℕ) → z < v .ends → (l : System) → Sampled (factor v z) (endOf v z .group) (seen l (phases xs z))
+  sampled z h l =
+      let r = around (λ x w. (x .p) within 32000) (phases xs z) (phases xs z) (reach z h) l in
+      record { factor = ok .factor-within z h; group = ok .limits .group z h; own = r .0; next = r .1; before = r .2 }
+
+  pub matched-bound : (z : ℕ) → z < v .ends → (l : System) → matchedAt v xs z l within 761874
+  unfolding matchedAt
+  matched-bound z h l = one-size (sampled z h l) (filtered (endOf v z))
+
+  module _ (bank : Healthy v xs) where
+    end-bound : (z : ℕ) → z < v .ends → (l : System) → (pos 1000 *ℤ matchedAt v xs z l -ℤ seen l (bank .w z) .p) within 13000
+    unfolding matchedAt factor
+    end-bound z h l =
+        let e = endOf v z in
+        let f = filtered e in
+        let some : 0 < below v = omega (arith, ok .power .least) in
+        let w = seen l (bank .w z) in
+        let near = around (λ x u. NearIdeal (e .group) f (above e) (below v) u (bank .common z) (x .p)) (phases xs z) (bank .w z) (bank .near z h) l in
+        one-end (sampled z h l) f (above e) (below v) w (bank .common z) some
+        (nearest-near (pos (65536 * above e)) (below v) some)
+        (rest-gone (row (e .group) f (ok .limits .group z h)) w (seen-sum (bank .w z) l ⇒ bank .over-limbs z h ⇒ simp ints (omega arith)))
+        (λ t. bank .unfiltered z h t ⇒ simp ints (omega arith))
+        (near .0)
+        (near .1)
+        (near .2)
+
+    pub total-bound : (l : System) → total v xs l within (13 * v .ends)
+    unfolding total
+    total-bound l = sum-close (λ z. matchedAt v xs z l) (λ z. seen l (bank .w z) .p) (v .ends) 13 (λ z h. end-bound z h l) (bank .over-ends l)

@@ -1,0 +1,131 @@
+-- `matching::matched_at` meets its contract: at an end in use, K, the end and its samples are those of the definition, each read as it is; at
+-- another the numbers are zero.
+use borrow.Author.Needs.{needs}
+use borrow.Author.Tests.{lt-ltb, le-ltb}
+use mathlib.Core.Path.{_≡_, refl, _∙_}
+use mathlib.Core.Bool.{cond}
+use mathlib.Core.List.{List}
+use Prim.Native.Nat.{ℕ, _+_, _*_, _<_}
+use lib.Dec.{ltb}
+use lib.IntN.{ℤ, pos}
+use lib.ListN.{getD}
+use mir.Syntax.{w16, w64}
+use mir.Val.{toZ, ofZ}
+use Rattle.integer.specs.Lists.{upTo}
+use Rattle.integer.proofs.Machine.{back-within}
+use Rattle.setting.specs.declared.Setting.{Setting}
+use Rattle.setting.specs.Values.{endOf, factor}
+use Rattle.setting.specs.Limits.{fourFactors}
+use Rattle.setting.proofs.LimitLaws.{startable-is}
+use Rattle.matching.specs.Sets.{sysA, seen, phases, trioOf, matchedAt, trioAt}
+use Rattle.matching.specs.Sized.{Sampled, Accepted}
+use Rattle.matching.proofs.Forms.{upTo-at}
+use Rattle.matching.proofs.Total.{sampled}
+use Rattle.matching.proofs.matched_at.Statement.{statement}
+use Rattle.matching.proofs.matched_at.Tie as tie
+
+-- K of an end in use, among the four
+factor-at : (v : Setting) (z : ℕ) → z < 4 → z < v .ends → getD (fourFactors v) z (pos 0) ≡ factor v z
+unfolding fourFactors upTo
+factor-at v z l h =
+    upTo-at 4 (λ k. getD (fourFactors v) k (pos 0)) (λ k. cond (ltb k (v .ends)) (factor v k) (pos 0)) refl z l ∙ rw (lt-ltb z (v .ends) h)
+
+-- ---- an end in use
+
+module _ {v : Setting} {ks xs : List ℤ} (a : Accepted v ks xs) {z : ℕ} (h : z < v .ends) where
+  end-sampled : Sampled (factor v z) (endOf v z .group) (phases xs z)
+  unfolding seen
+  end-sampled = sampled v (startable-is (a .sound)) xs (a .reach) z h sysA
+
+  read-factor : z < 4 → toZ w64 (ofZ w64 (getD ks z (pos 0))) ≡ factor v z
+  read-factor l = rw (a .factors, factor-at v z l h) (back-within (end-sampled .factor) w64 refl)
+
+  read-own : toZ w16 (ofZ w16 (phases xs z .p)) ≡ phases xs z .p
+  read-own = back-within (end-sampled .own) w16 refl
+
+  read-next : toZ w16 (ofZ w16 (phases xs z .n)) ≡ phases xs z .n
+  read-next = back-within (end-sampled .next) w16 refl
+
+  read-before : toZ w16 (ofZ w16 (phases xs z .q)) ≡ phases xs z .q
+  read-before = back-within (end-sampled .before) w16 refl
+
+-- ---- the needs
+
+mul-first : tie.Need-mul-first
+mul-first c = search needs
+
+mul-matched-end : tie.Need-mul-matched-end
+mul-matched-end c = search needs
+
+array-copy-out-matched-end : tie.Need-array-copy-out-matched-end
+array-copy-out-matched-end c = search needs
+
+end-of-requires : tie.Need-end-of-requires
+end-of-requires c κs = search needs
+
+mul-matched-end-2 : tie.Need-mul-matched-end-2
+mul-matched-end-2 c = search needs
+
+shared-slice-copy-out-matched-end : tie.Need-shared-slice-copy-out-matched-end
+shared-slice-copy-out-matched-end c = search needs
+
+add-matched-end : tie.Need-add-matched-end
+add-matched-end c = search needs
+
+mul-matched-end-3 : tie.Need-mul-matched-end-3
+mul-matched-end-3 c = search needs
+
+shared-slice-copy-out-matched-end-2 : tie.Need-shared-slice-copy-out-matched-end-2
+shared-slice-copy-out-matched-end-2 c = search needs
+
+add-matched-end-2 : tie.Need-add-matched-end-2
+add-matched-end-2 c = search needs
+
+mul-matched-end-4 : tie.Need-mul-matched-end-4
+mul-matched-end-4 c = search needs
+
+shared-slice-copy-out-matched-end-3 : tie.Need-shared-slice-copy-out-matched-end-3
+shared-slice-copy-out-matched-end-3 c = search needs
+
+matched-end-requires : tie.Need-matched-end-requires
+matched-end-requires c κs =
+    let e = c .before .before .before in
+    let d = e .before .before in
+    let a = d .before .before .pre .0 in
+    let l = d .before .before .pre .1 in
+    let h = d .if1 .taken in
+    rw (read-factor a h l, e .end-of .ensures, read-own a h, read-next a h, read-before a h) (end-sampled a h)
+
+returns : tie.Need-returns
+unfolding trioOf trioAt matchedAt
+returns c =
+    let e = c .before .before .before .before in
+    let d = e .before .before in
+    let a = d .before .before .pre .0 in
+    let l = d .before .before .pre .1 in
+    let h = d .if1 .taken in
+    rw (c .matched-end .ensures, read-factor a h l, e .end-of .ensures, read-own a h, read-next a h, read-before a h, lt-ltb _ _ h)
+
+returns-2 : tie.Need-returns-2
+unfolding trioAt
+returns-2 c = rw (le-ltb _ _ (c .if1 .left))
+
+pub matched-at-spec : {M : Type 1} → statement M
+matched-at-spec =
+    tie.close
+    (tie.spec
+    mul-first
+    mul-matched-end
+    array-copy-out-matched-end
+    end-of-requires
+    mul-matched-end-2
+    shared-slice-copy-out-matched-end
+    add-matched-end
+    mul-matched-end-3
+    shared-slice-copy-out-matched-end-2
+    add-matched-end-2
+    mul-matched-end-4
+    shared-slice-copy-out-matched-end-3
+    matched-end-requires
+    returns
+    returns-2)

@@ -1,0 +1,63 @@
+-- What is measured of a full window (document 01, "Amplitudes" and "Characteristic and trip").
+use mathlib.Core.Bool.{Bool, _&&_, _||_, cond}
+use mathlib.Core.List.{List}
+use Prim.Native.Nat.{ℕ, zero, suc, _+_}
+use lib.Dec.{eqb}
+use lib.IntN.{ℤ}
+use Rattle.setting.specs.declared.Setting.{Setting}
+use Rattle.matching.specs.Sets.{System, sysA, sysB, sysC}
+use Rattle.amplitude.specs.Amplitude.{amplitude}
+use Rattle.measuring.specs.declared.Currents.{Currents}
+use Rattle.measuring.specs.declared.Reading.{Reading}
+use Rattle.measuring.specs.declared.Readings.{Readings}
+use Rattle.measuring.specs.Window.{series, sums, difference}
+use Rattle.measuring.specs.Characteristic.{starts, hasHarmonics, commonOn}
+
+-- D, H2 and H5 are the amplitudes for h = 1, 2, 5 of the sum of v over the ends.
+abbrev pub differential : Setting → List ℤ → System → ℕ
+differential v win l = amplitude 1 (sums (v .ends) win l)
+
+abbrev pub second : Setting → List ℤ → System → ℕ
+second v win l = amplitude 2 (sums (v .ends) win l)
+
+abbrev pub fifth : Setting → List ℤ → System → ℕ
+fifth v win l = amplitude 5 (sums (v .ends) win l)
+
+-- f 0 + .. + f (n - 1)
+abbrev pub sumℕ : ℕ → (ℕ → ℕ) → ℕ
+sumℕ zero f = 0
+sumℕ (suc n) f = sumℕ n f + f n
+
+-- R is twice the restraint: for E = 2 the h = 1 amplitude of end 0 minus end 1; else the sum of each end's.
+unfoldable pub twiceRestraint : Setting → List ℤ → System → ℕ
+twiceRestraint v win l =
+    cond (eqb (v .ends) 2) (amplitude 1 (difference win l)) (sumℕ (v .ends) (λ z. amplitude 1 (series win z l)))
+
+abbrev pub start : Setting → List ℤ → System → Bool
+start v win l = starts v (differential v win l) (twiceRestraint v win l)
+
+unfoldable pub harmonics : Setting → List ℤ → System → Bool
+harmonics v win l = hasHarmonics v (differential v win l) (second v win l) (fifth v win l)
+
+-- It is blocked when it has harmonics, or, with common blocking, when any system has.
+unfoldable pub blocked : Setting → List ℤ → System → Bool
+blocked v win l = harmonics v win l || (commonOn v && (harmonics v win sysA || (harmonics v win sysB || harmonics v win sysC)))
+
+-- the four currents of a system
+unfoldable pub currentsOf : Setting → List ℤ → System → Currents
+currentsOf v win l = record { d = differential v win l; r = twiceRestraint v win l; h2 = second v win l; h5 = fifth v win l }
+
+-- what is reported of a system, but for its latch
+unfoldable pub readingOf : Setting → List ℤ → System → Reading
+readingOf v win l =
+    record {
+      d = differential v win l;
+      r = twiceRestraint v win l;
+      h2 = second v win l;
+      h5 = fifth v win l;
+      start = start v win l;
+      blocked = blocked v win l;
+    }
+
+unfoldable pub readingsOf : Setting → List ℤ → Readings
+readingsOf v win = record { a = readingOf v win sysA; b = readingOf v win sysB; c = readingOf v win sysC }

@@ -1,0 +1,32 @@
+-- What the code of the measuring takes.
+use mathlib.Core.Path.{_≡_}
+use mathlib.Core.List.{List}
+use Prim.Native.Nat.{ℕ, _*_, _≤_}
+use lib.IntN.{ℤ, pos}
+use lib.ListN.{length, getD}
+use Rattle.integer.specs.Within.{_within_}
+use Rattle.setting.specs.declared.Setting.{Setting}
+use Rattle.measuring.specs.declared.Currents.{Currents}
+
+-- twelve places of twelve numbers, each as large as a record may hold
+pub record Sized (win : List ℤ) : Type 0 where
+  pub long : length win ≡ 144
+  pub small : (k : ℕ) → getD win k (pos 0) within 800000
+
+-- two to four ends
+pub record Ends (ends : ℕ) : Type 0 where
+  pub two : 2 ≤ ends
+  pub four : ends ≤ 4
+
+-- a window and a setting whose third section starts past its basic threshold
+pub record Measurable (v : Setting) (win : List ℤ) : Type 0 where
+  pub ends : Ends (v .ends)
+  pub sections : v .basic ≤ 2 * v .third
+  pub sized : Sized win
+
+-- currents that the characteristic's sums take
+pub record Ranged (c : Currents) : Type 0 where
+  pub d : c .d ≤ 6400000
+  pub r : c .r ≤ 25600000
+  pub h2 : c .h2 ≤ 6400000
+  pub h5 : c .h5 ≤ 6400000

@@ -1,0 +1,14 @@
+-- Laws of the window and of lists of calls, and the theorems over them.
+pub mod FlatLists
+pub mod Filing
+pub mod Cases
+pub mod Holding
+pub mod Quiet
+mod Scans
+mod Moves
+pub mod Admission
+pub mod Placed
+pub mod Below
+pub mod Settled
+pub mod Ready
+mod Rows

@@ -1,0 +1,62 @@
+-- What an accepted set of an admissible record is ready for: matching, filing and measuring.
+use mathlib.Core.Path.{_≡_, refl}
+use mathlib.Core.Bool.{Bool, true}
+use mathlib.Core.List.{List, [], _∷_}
+use Prim.Native.Nat.{ℕ, _*_, _≤_}
+use native.Mathlib.Omega.{arith}
+use lib.Dec.{T, leb→le}
+use lib.IntN.{ℤ}
+use lib.ListN.{length}
+use Rattle.integer.specs.Tests.{hold}
+use Rattle.integer.proofs.TestLaws.{hold-at}
+use Rattle.setting.specs.Values.{startable}
+use Rattle.setting.specs.Limits.{Limits, fourFactors}
+use Rattle.setting.proofs.LimitLaws.{Startable, startable-is}
+use Rattle.matching.specs.Sets.{numbers}
+use Rattle.matching.specs.Sized.{Accepted}
+use Rattle.measuring.specs.Sized.{Sized, Measurable}
+use Rattle.relay.specs.declared.Window.{Window}
+use Rattle.relay.specs.declared.Relay.{Relay}
+use Rattle.relay.specs.Record.{windowWithin, admissible, placed}
+use Rattle.relay.specs.Calls.{inReach, windowAfter}
+use Rattle.relay.proofs.Admission.{admitted-is}
+use Rattle.relay.proofs.Holding.{reach-of, sized-of, numbers-twelve}
+use Rattle.relay.proofs.Placed.{each-sized, placed-each}
+use Rattle.relay.proofs.Below.{matched-bound}
+
+is-T : {b : Bool} → b ≡ true → T b
+is-T e = rw e tt
+
+module _ (r : Relay) (xs : List ℤ) (a : admissible r ≡ true) where
+  pub startable-now : T (startable (r .setting))
+  startable-now = is-T (admitted-is r a .sound)
+
+  limits-now : Startable (r .setting)
+  limits-now = startable-is startable-now
+
+  pub factors-ready : Limits (r .setting)
+  factors-ready = limits-now .limits
+
+  pub few-held : r .window .fill ≤ 12
+  few-held = leb→le (r .window .fill) 12 (hold-at (windowWithin (r .window)) (is-T (admitted-is r a .within)) 0)
+
+  module _ (l : length xs ≡ 12) (i : inReach xs ≡ true) where
+    pub numbers-ready : (ks : List ℤ) → ks ≡ fourFactors (r .setting) → Accepted (r .setting) ks xs
+    numbers-ready ks e = record { sound = startable-now; factors = e; twelve = l; reach = reach-of (r .setting) xs (is-T i) }
+
+    pub measure-ready : (w : Window) → w ≡ windowAfter r xs → length (w .values) ≡ 144 → Measurable (r .setting) (w .values)
+    measure-ready w e long =
+        let s = limits-now in
+        record {
+          ends = record { two = s .limits .two; four = s .limits .four };
+          sections = omega (arith, s .basic .most, s .third .least);
+          sized =
+              record {
+                long = long;
+                small =
+                    rw e
+                    (placed-each (r .window) (numbers (r .setting) xs)
+                    (each-sized (r .window .values) (hold-at (windowWithin (r .window)) (is-T (admitted-is r a .within)) 1))
+                    (sized-of matched-bound (r .setting) startable-now xs (reach-of (r .setting) xs (is-T i))));
+              };
+        }

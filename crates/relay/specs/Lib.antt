@@ -1,0 +1,4 @@
+pub mod Record
+pub mod Calls
+pub mod Lists
+pub mod Stability

@@ -1,0 +1,61 @@
+-- Demand 3 (00; 01, "A healthy bank"): one claim about the whole list of calls from a fresh relay.
+use mathlib.Core.Path.{_≡_}
+use mathlib.Core.Logic.{_≢_}
+use mathlib.Core.Bool.{false}
+use mathlib.Core.List.{List, [], _∷_}
+use Prim.Native.Nat.{ℕ, _≤_}
+use lib.Dec.{T}
+use Rattle.integer.specs.Tests.{Each}
+use Rattle.block.specs.Refusals.{Outcome, gives, declines}
+use Rattle.setting.specs.declared.Setting.{Setting}
+use Rattle.setting.specs.Values.{startable}
+use Rattle.matching.specs.Sets.{System}
+use Rattle.matching.specs.Bank.{Healthy}
+use Rattle.amplitude.specs.Peak.{peak}
+use Rattle.relay.specs.declared.Measure.{Measure}
+use Rattle.relay.specs.declared.Relay.{Relay}
+use Rattle.relay.specs.Record.{elementOf, fresh}
+use Rattle.relay.specs.Calls.{accepted, Reply, filling, measured, sampleReply, resetReply}
+use Rattle.relay.specs.Lists.{Call, sample, reset, after}
+
+-- each accepted set is that of a healthy bank
+abbrev pub HealthyCall : Setting → Call → Type 0
+HealthyCall v (sample xs) = T (accepted v xs) → Healthy v xs
+HealthyCall v reset = Unit {0}
+
+-- no start, no latch, and D at most 45, 69 or 91 for E 2, 3 or 4
+pub record Calm (v : Setting) (m : Measure) : Type 0 where
+  pub no-start : m .reading .start ≡ false
+  pub no-latch : m .latched ≡ false
+  pub small-d : m .reading .d ≤ peak (v .ends)
+
+abbrev pub CalmReply : Setting → Reply → Type 0
+CalmReply v (filling n) = Unit {0}
+CalmReply v (measured a b c) = Calm v a × Calm v b × Calm v c
+
+-- refusal 12 does not arise, and a Measured answer is calm
+abbrev pub CalmOutcome : Setting → Outcome Reply → Type 0
+CalmOutcome v (gives r) = CalmReply v r
+CalmOutcome v (declines n) = n ≢ 12
+
+abbrev pub Not12 : {A : Type 0} → Outcome A → Type 0
+Not12 (gives a) = Unit {0}
+Not12 (declines n) = n ≢ 12
+
+abbrev pub CalmCall : Setting → Relay → Call → Type 0
+CalmCall v r (sample xs) = CalmOutcome v (sampleReply r xs)
+CalmCall v r reset = Not12 (resetReply r)
+
+-- a record with no latch
+abbrev pub NoLatch : Relay → Type 0
+NoLatch r = (l : System) → elementOf (r .trip) l .latch ≡ false
+
+-- every record of the list, the first included, and every answer
+abbrev pub Stays : Setting → Relay → List Call → Type 0
+Stays v r [] = NoLatch r
+Stays v r (c ∷ cs) = NoLatch r × (CalmCall v r c × Stays v (after r c) cs)
+
+-- Start a relay on any setting that it accepts, and take every list of sample and reset calls, refused ones included. Where each accepted set
+-- is that of a healthy bank, nothing starts, nothing trips, and D keeps its limit.
+unfoldable pub Stability : Type 0
+Stability = (v : Setting) → T (startable v) → (cs : List Call) → Each (HealthyCall v) cs → Stays v (fresh v) cs

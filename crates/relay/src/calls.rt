@@ -1,0 +1,220 @@
+// The relay's calls: start, sample and reset. Sample and reset take the record by value and hand it back beside the answer.
+
+ghost use mathlib.Core.Path.{_≡_};
+ghost use mathlib.Core.Bool.{true, false};
+ghost use Prim.Native.Nat.{_≤_};
+ghost use Rattle.block.specs.Refusals.{gives, declines, numberOf};
+ghost use Rattle.measuring.specs.Characteristic.{counts as countsOf};
+ghost use Rattle.measuring.specs.Sized.{Measurable};
+ghost use Rattle.relay.specs.Record.{elementAfter, fresh};
+ghost use Rattle.relay.specs.Calls.{blank as blankOf, full, replyNow, relayNow, replyOf, Samples, Resets, Starts};
+use crate::Answer;
+use crate::Element;
+use crate::Measure;
+use crate::Relay;
+use crate::ResetAnswer;
+use crate::Restarted;
+use crate::Sampled;
+use crate::Started;
+use crate::Trip;
+use crate::Window;
+use crate::records;
+use crate::sets;
+use block::Refusal;
+use measuring::Reading;
+use setting::End;
+use setting::Setting;
+use setting::Verdict;
+
+// Setting values that are all zero, of which no relay can be started.
+fn blank() -> Setting
+    ensures { λ r. ⌜ r ≡ blankOf ⌝ }
+{
+    let e = End {
+        voltage: 0,
+        current: 0,
+        group: 0,
+        filter: 0,
+    };
+    Setting {
+        ends: 0,
+        flags: 0,
+        confirm: 0,
+        power: 0,
+        e0: e,
+        e1: e,
+        e2: e,
+        e3: e,
+        basic: 0,
+        high: 0,
+        slope1: 0,
+        slope2: 0,
+        third: 0,
+        second: 0,
+        fifth: 0,
+    }
+}
+
+// Whether a system counts: it starts and is not blocked, or D exceeds the high-set.
+fn counts(v: Setting, m: Reading) -> bool
+    ensures { λ r. ⌜ r ≡ countsOf v (m .d) (m .start) (m .blocked) ⌝ }
+{
+    if (v.high as u32) < m.d {
+        return true;
+    }
+    if m.blocked {
+        return false;
+    }
+    m.start
+}
+
+// The counter and the latch of a system after it was measured.
+fn element_now(v: Setting, m: Reading, e: Element) -> Element
+    ensures { λ r. ⌜ r ≡ elementAfter (v .confirm) (countsOf v (m .d) (m .start) (m .blocked)) e ⌝ }
+{
+    records::element_after(v.confirm, counts(v, m), e)
+}
+
+// A set filed in a window that is not full yet: the number held, counters cleared.
+fn filling(r: Relay, w: Window) -> Sampled
+    requires { ⌜ full w ≡ false ⌝ }
+    ensures { λ s. ⌜ (replyOf (s .answer) ≡ gives (replyNow r w)) × (s .relay ≡ relayNow r w) ⌝ }
+{
+    let v = r.setting;
+    let t = r.trip;
+    let trip = Trip {
+        a: records::element_after(v.confirm, false, t.a),
+        b: records::element_after(v.confirm, false, t.b),
+        c: records::element_after(v.confirm, false, t.c),
+    };
+    let n = w.fill;
+    let relay = Relay {
+        setting: v,
+        window: w,
+        trip: trip,
+    };
+    Sampled {
+        answer: Answer::Filling(n),
+        relay: relay,
+    }
+}
+
+// A set filed in a window that is full: the three systems measured, counters and latches after it.
+fn measured(r: Relay, w: Window) -> Sampled
+    requires { ⌜ (full w ≡ true) × Measurable (r .setting) (w .values) ⌝ }
+    ensures { λ s. ⌜ (replyOf (s .answer) ≡ gives (replyNow r w)) × (s .relay ≡ relayNow r w) ⌝ }
+{
+    let v = r.setting;
+    let t = r.trip;
+    let values = w.values;
+    let m = measuring::measure(v, &values);
+    let in_a = m.a;
+    let in_b = m.b;
+    let in_c = m.c;
+    let a = element_now(v, in_a, t.a);
+    let b = element_now(v, in_b, t.b);
+    let c = element_now(v, in_c, t.c);
+    let trip = Trip { a: a, b: b, c: c };
+    let of_a = Measure {
+        reading: in_a,
+        latched: a.latch,
+    };
+    let of_b = Measure {
+        reading: in_b,
+        latched: b.latch,
+    };
+    let of_c = Measure {
+        reading: in_c,
+        latched: c.latch,
+    };
+    let relay = Relay {
+        setting: v,
+        window: w,
+        trip: trip,
+    };
+    Sampled {
+        answer: Answer::Measured(of_a, of_b, of_c),
+        relay: relay,
+    }
+}
+
+// A refusal of a sample call, with the record as before.
+fn refused(r: Relay, why: Refusal) -> Sampled
+    ensures { λ s. ⌜ (replyOf (s .answer) ≡ declines (numberOf why)) × (s .relay ≡ r) ⌝ }
+{
+    Sampled {
+        answer: Answer::Refused(why),
+        relay: r,
+    }
+}
+
+impl Relay {
+    // A fresh relay on setting values, or the refusal, 4 to 7, beside a blank record.
+    pub fn start(v: Setting) -> Started
+        ensures { λ s. ⌜ Starts v s ⌝ }
+    {
+        let judged = setting::judging::verdict(v);
+        if let Verdict::Unsound(_) = judged {
+            return Started {
+                answer: judged,
+                relay: records::fresh(blank()),
+            };
+        }
+        Started {
+            answer: judged,
+            relay: records::fresh(v),
+        }
+    }
+
+    // A sample set: 12, 14, 10, 11, in this order; an accepted set is filed and answered.
+    pub fn sample(self, set: &[i16]) -> Sampled
+        ensures { λ s. ⌜ Samples self (now (set .entry)) s ⌝ }
+    {
+        if !records::admissible(self) {
+            return refused(self, Refusal::Record);
+        }
+        if set.len() != 12 {
+            return refused(self, Refusal::Count);
+        }
+        if !sets::in_reach(set) {
+            return refused(self, Refusal::Reach);
+        }
+        let v = self.setting;
+        if !sets::unused_zero(v.ends, set) {
+            return refused(self, Refusal::Unused);
+        }
+        let old = self.window;
+        let w = records::place(old, matching::numbers(v, setting::factors::factors(v), set));
+        if w.fill < 12 {
+            return filling(self, w);
+        }
+        measured(self, w)
+    }
+
+    // Clears counters and latches, and not the window: 12.
+    pub fn reset(self) -> Restarted
+        ensures { λ s. ⌜ Resets self s ⌝ }
+    {
+        if !records::admissible(self) {
+            return Restarted {
+                answer: ResetAnswer::Declined(Refusal::Record),
+                relay: self,
+            };
+        }
+        let clear = Element {
+            count: 0,
+            latch: false,
+        };
+        let trip = Trip {
+            a: clear,
+            b: clear,
+            c: clear,
+        };
+        let mut relay = self;
+        relay.trip = trip;
+        Restarted {
+            answer: ResetAnswer::Cleared,
+            relay: relay,
+        }
+    }
+}

@@ -1,0 +1,14 @@
+// The theorems over lists of calls: no code, the statements and their proofs.
+
+ghost use Rattle.relay.specs.Lists.{WindowFiled, Answered};
+ghost use Rattle.relay.specs.Stability.{Stability};
+
+// Demand 2 over the list: the window is that of the last twelve accepted sets, and the answers are those that the definitions give for it.
+pub fn filed()
+    ensures { λ _. ⌜ WindowFiled × Answered ⌝ }
+{}
+
+// Demand 3: no start, no trip, and D within its limit, over every list of calls whose accepted sets are those of a healthy bank.
+pub fn stability()
+    ensures { λ _. ⌜ Stability ⌝ }
+{}

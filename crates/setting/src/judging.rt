@@ -1,0 +1,53 @@
+// The verdict on setting values: whether a relay can be started on them, or the refusal, 4 to 7.
+
+ghost use mathlib.Core.Path.{_≡_};
+ghost use Rattle.setting.specs.Values.{startable};
+ghost use Rattle.setting.specs.Calls.{Judges};
+ghost use Rattle.setting.specs.Search.{verdictOf};
+use crate::Fault;
+use crate::Setting;
+use crate::Verdict;
+use crate::factors;
+use crate::rules;
+use block::Refusal;
+
+// Refusals 4 to 7 of setting values, with a fault found beside those of the fields.
+pub fn verdict_beside(v: Setting, beside: Fault) -> Verdict
+    ensures { λ r. ⌜ r ≡ verdictOf beside v ⌝ }
+{
+    if v.ends < 2 {
+        return Verdict::Unsound(Refusal::Ends);
+    }
+    if 4 < v.ends {
+        return Verdict::Unsound(Refusal::Ends);
+    }
+    let f = rules::sooner(rules::fault(v), beside);
+    if let Fault::At(x) = f {
+        return Verdict::Unsound(Refusal::Field(x));
+    }
+    let k = factors::factors(v);
+    if factors::any_high(k) {
+        return Verdict::Unsound(Refusal::FactorHigh);
+    }
+    if factors::how_many(k) < 2 {
+        return Verdict::Unsound(Refusal::FactorsLow);
+    }
+    Verdict::Sound
+}
+
+// Whether a relay can be started on setting values, or the refusal, 4 to 7.
+pub fn verdict(v: Setting) -> Verdict
+    ensures { λ r. ⌜ Judges v r ⌝ }
+{
+    verdict_beside(v, Fault::Nowhere)
+}
+
+// Whether a relay can be started on setting values.
+pub fn sound(v: Setting) -> bool
+    ensures { λ ok. ⌜ ok ≡ startable v ⌝ }
+{
+    match verdict(v) {
+        Verdict::Sound => true,
+        Verdict::Unsound(_) => false,
+    }
+}

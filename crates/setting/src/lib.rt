@@ -1,0 +1,52 @@
+// Setting values, their rules and factors, and the verdict on them.
+
+pub mod factors;
+pub mod judging;
+pub mod rules;
+
+use block::Refusal;
+
+// An end: nominal voltage V in 0.1 kV, primary rated current I in A, vector group, zero-sequence filter.
+pub struct End {
+    pub voltage: u32,
+    pub current: u32,
+    pub group: u8,
+    pub filter: u8,
+}
+
+// Setting values. A value of this type may break the rules: `verdict` says whether it does.
+pub struct Setting {
+    // The number of ends E.
+    pub ends: u8,
+    // Bit 0 second-harmonic blocking, bit 1 fifth, bit 2 common blocking.
+    pub flags: u8,
+    // The confirm count M.
+    pub confirm: u8,
+    // The reference power S in 0.1 MVA.
+    pub power: u32,
+    pub e0: End,
+    pub e1: End,
+    pub e2: End,
+    pub e3: End,
+    // P, H and Q in thousandths of reference current; m1 and m2 in percent.
+    pub basic: u16,
+    pub high: u16,
+    pub slope1: u16,
+    pub slope2: u16,
+    pub third: u16,
+    // The percents of second and fifth harmonic that block.
+    pub second: u16,
+    pub fifth: u16,
+}
+
+// The offset of a field outside its rule, if there is one.
+pub enum Fault {
+    Nowhere,
+    At(u16),
+}
+
+// What the rules say of setting values.
+pub enum Verdict {
+    Sound,
+    Unsound(Refusal),
+}

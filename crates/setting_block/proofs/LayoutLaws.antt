@@ -1,0 +1,178 @@
+-- The layout, both ways. Bytes with the mark and zero bytes are the header of the values that they hold, and then zeros: each number's bytes are those it was read from.
+-- The values that a header holds are those it was made of: each number fits its bytes.
+use mathlib.Core.Path.{_≡_, refl, sym, ap, ap₂, _∙_}
+use mathlib.Core.Bool.{Bool, true, false, not, _&&_}
+use mathlib.Core.List.{List, [], _∷_, _++_, map}
+use Prim.Native.Nat.{ℕ, zero, suc, _+_, _<_, _≤_}
+use native.Mathlib.Omega.{arith}
+use lib.Dec.{T, eqb, ltb, eqb→eq, ltb→lt, nltb→le}
+use lib.ListN.{length, getD, take, drop, replicate, length-drop, length-replicate, getD-replicate, List·getD-append}
+use lib.Seq.{take-add, getD-append-add, getD-drop}
+use borrow.Author.Tests.{eq-eqb}
+use Rattle.integer.specs.Lists.{upTo}
+use Rattle.integer.specs.Tests.{each, Each, none, _&_}
+use Rattle.integer.proofs.TestLaws.{split, each-drop, each-get, each-test, test-each}
+use Rattle.block.specs.Bytes.{u16At, u32At, bytes16, bytes32}
+use Rattle.block.proofs.Places.{getD-upTo, take-upTo, upTo-same}
+use Rattle.block.proofs.ByteLaws.{u16-bytes, u32-bytes, bytes-u16, bytes-u32}
+use Rattle.setting.specs.declared.End.{End}
+use Rattle.setting.specs.declared.Setting.{Setting}
+use Rattle.setting.specs.Values.{endOf, allRight}
+use Rattle.setting.proofs.LimitLaws.{Startable}
+use Rattle.setting_block.specs.Layout.{endAt, settingAt, marked, spareOffsets, spare, spares, endBytes, header}
+
+-- ---- the zero bytes, as facts
+
+-- the byte at an offset is zero
+abbrev pub Zero : List ℕ → ℕ → Type 0
+Zero s at = getD s at 0 ≡ 0
+
+each-map : {A B : Type 0} (t : B → Bool) (f : A → B) (l : List A) → each t (map f l) ≡ each (λ a. t (f a)) l
+each-map t f [] = refl
+each-map t f (a ∷ l) = ap (λ (b : Bool). t (f a) && b) (each-map t f l)
+
+module _ (s : List ℕ) where
+  spares-each : allRight (spares s) ≡ each (λ at. eqb (getD s at 0) 0) spareOffsets
+  unfolding spares
+  spares-each = each-map (λ f. f .right) (spare s) spareOffsets
+
+  pub spares-zero : T (allRight (spares s)) → Each (Zero s) spareOffsets
+  spares-zero h = test-each (λ at. eqb (getD s at 0) 0) (λ at. eqb→eq (getD s at 0) 0) spareOffsets (rw spares-each at h)
+
+  pub zero-spares : Each (Zero s) spareOffsets → T (allRight (spares s))
+  zero-spares h = rw spares-each (each-test (λ at. eqb (getD s at 0) 0) (λ at e. rw (eq-eqb (getD s at 0) 0 e) tt) h)
+
+-- ---- from bytes to values and back
+
+upTo-zeros : (n : ℕ) → upTo {A = ℕ} n (λ k. 0) ≡ replicate n 0
+unfolding upTo
+upTo-zeros zero = refl
+upTo-zeros (suc n) = ap (λ (t : List ℕ). 0 ∷ t) (upTo-zeros n)
+
+-- a run of zeros after the start of a list
+run : (s : List ℕ) (m n : ℕ) → m + n ≤ length s → ((k : ℕ) → k < n → Zero s (m + k)) → take (m + n) s ≡ take m s ++ replicate n 0
+run s m n l z =
+    take-add m n s ∙
+    ap (λ (t : List ℕ). take m s ++ t)
+    (take-upTo n (drop m s) 0 (simp length-drop (omega arith)) ∙ upTo-same n _ _ (λ k h. getD-drop m s k 0 ∙ z k h) ∙ upTo-zeros n)
+
+-- the bytes from a place on
+abbrev two : List ℕ → ℕ → List ℕ
+two s at = getD s at 0 ∷ getD s (at + 1) 0 ∷ []
+
+abbrev four : List ℕ → ℕ → List ℕ
+four s at = getD s at 0 ∷ getD s (at + 1) 0 ∷ getD s (at + 2) 0 ∷ getD s (at + 3) 0 ∷ []
+
+infixl 65 _beside_
+_beside_ : {a b c d : List ℕ} → a ≡ b → c ≡ d → a ++ c ≡ b ++ d
+_beside_ = ap₂ (λ (x y : List ℕ). x ++ y)
+
+-- bytes 0 to 7
+mark-is : (s : List ℕ) → T (marked s) → Zero s 7 → (0x54 ∷ 0x44 ∷ 0x50 ∷ 0x31 ∷ getD s 4 0 ∷ getD s 5 0 ∷ getD s 6 0 ∷ 0 ∷ []) ≡ four s 0 ++ four s 4
+mark-is s h z =
+    let p = split (eqb (getD s 0 0) 0x54) _ h in
+    let q = split (eqb (getD s 1 0) 0x44) _ (p .1) in
+    let r = split (eqb (getD s 2 0) 0x50) (eqb (getD s 3 0) 0x31) (q .1) in
+    rw (eqb→eq (getD s 0 0) 0x54 (p .0), eqb→eq (getD s 1 0) 0x44 (q .0), eqb→eq (getD s 2 0) 0x50 (r .0), eqb→eq (getD s 3 0) 0x31 (r .1), z)
+
+module _ (s : List ℕ) (byte : (k : ℕ) → getD s k 0 < 256) where
+  two-is : (at : ℕ) → bytes16 (u16At s at) ≡ two s at
+  two-is at = bytes-u16 s at (byte at) (byte (at + 1))
+
+  four-is : (at : ℕ) → bytes32 (u32At s at) ≡ four s at
+  four-is at = bytes-u32 s at (byte at) (byte (at + 1)) (byte (at + 2)) (byte (at + 3))
+
+  end-is : (at : ℕ) → Zero s (at + 10) → Zero s (at + 11)
+      → endBytes (endAt s at) ≡ four s at ++ four s (at + 4) ++ (getD s (at + 8) 0 ∷ getD s (at + 9) 0 ∷ getD s (at + 10) 0 ∷ getD s (at + 11) 0 ∷ [])
+  end-is at y z = four-is at beside four-is (at + 4) beside rw (y, z)
+
+  -- bytes 0 to 73
+  header-is : T (marked s) → Each (Zero s) spareOffsets → header (settingAt s) ≡ upTo 74 (λ k. getD s k 0)
+  unfolding header settingAt upTo
+  header-is m (z7 & z22 & z23 & z34 & z35 & z46 & z47 & z58 & z59 & rest) =
+      mark-is s m z7
+      beside four-is 8
+      beside end-is 12 z22 z23
+      beside end-is 24 z34 z35
+      beside end-is 36 z46 z47
+      beside end-is 48 z58 z59
+      beside two-is 60
+      beside two-is 62
+      beside two-is 64
+      beside two-is 66
+      beside two-is 68
+      beside two-is 70
+      beside two-is 72
+
+  tail-zero : Each (Zero s) spareOffsets → (k : ℕ) → k < 436 → Zero s (74 + k)
+  tail-zero (z7 & rest) k h = rw (getD-upTo 436 (λ k. 74 + k) k 7 h) at (each-get (each-drop rest 8) {d = 7} z7 k)
+
+  pub body-is : 510 ≤ length s → T (marked s) → Each (Zero s) spareOffsets → header (settingAt s) ++ replicate 436 0 ≡ take 510 s
+  body-is l m z =
+      ap (λ (t : List ℕ). t ++ replicate 436 0) (header-is m z ∙ sym (take-upTo 74 s 0 (omega arith))) ∙
+      sym (run s 74 436 l (tail-zero z))
+
+-- ---- from values to bytes and back
+
+-- the voltage and the current of an end fit four bytes
+record Fits (e : End) : Type 0 where
+  voltage : e .voltage < 4294967296
+  current : e .current < 4294967296
+
+end-fits : {v : Setting} → Startable v → (z : ℕ) → z < 4 → Fits (endOf v z)
+end-fits {v} h z l = by (ltb z (v .ends)) (ltb→lt z (v .ends)) (nltb→le z (v .ends))
+  where
+    by : (b : Bool) → (T b → z < v .ends) → (T (not b) → v .ends ≤ z) → Fits (endOf v z)
+    by true y n = let u = h .used z (y tt) in record { voltage = omega arith; current = omega arith }
+    by false y n = let u = h .unused z (n tt) l in record { voltage = omega arith; current = omega arith }
+
+end-back : (e : End) → Fits e → endAt (endBytes e) 0 ≡ e
+end-back e f = rw (u32-bytes (e .voltage) [] (f .voltage), u32-bytes (e .current) [] (f .current))
+
+upTo-each : {P : ℕ → Type 0} (n : ℕ) (f : ℕ → ℕ) → ((k : ℕ) → k < n → P (f k)) → Each P (upTo n f)
+unfolding upTo
+upTo-each zero f h = none
+upTo-each (suc n) f h = h 0 (omega arith) & upTo-each n (λ k. f (suc k)) (λ k l. h (suc k) (omega arith))
+
+pub header-length : (v : Setting) → length (header v) ≡ 74
+unfolding header
+header-length v = refl
+
+-- a header with any bytes after it
+module _ (v : Setting) (rest : List ℕ) where
+  pub header-marked : marked (header v ++ rest) ≡ true
+  unfolding header
+  header-marked = refl
+
+  pub setting-back : Startable v → settingAt (header v ++ rest) ≡ v
+  unfolding header settingAt
+  setting-back h =
+      λ i.
+      record {
+        ends = v .ends;
+        flags = v .flags;
+        confirm = v .confirm;
+        power = u32-bytes (v .power) [] (omega (arith, h .power .most)) i;
+        e0 = end-back (v .e0) (end-fits h 0 (omega arith)) i;
+        e1 = end-back (v .e1) (end-fits h 1 (omega arith)) i;
+        e2 = end-back (v .e2) (end-fits h 2 (omega arith)) i;
+        e3 = end-back (v .e3) (end-fits h 3 (omega arith)) i;
+        basic = u16-bytes (v .basic) [] (omega (arith, h .basic .most)) i;
+        high = u16-bytes (v .high) [] (omega (arith, h .high .most)) i;
+        slope1 = u16-bytes (v .slope1) [] (omega (arith, h .slope1 .most)) i;
+        slope2 = u16-bytes (v .slope2) [] (omega (arith, h .slope2 .most)) i;
+        third = u16-bytes (v .third) [] (omega (arith, h .third .most)) i;
+        second = u16-bytes (v .second) [] (omega (arith, h .second .most)) i;
+        fifth = u16-bytes (v .fifth) [] (omega (arith, h .fifth .most)) i;
+      }
+
+  -- and with zeros between
+  after-zero : (k : ℕ) → k < 436 → Zero (header v ++ (replicate 436 0 ++ rest)) (74 + k)
+  after-zero k h =
+      let zs : List ℕ = replicate 436 0 in
+      let e : getD (header v ++ (zs ++ rest)) (74 + k) 0 ≡ getD (zs ++ rest) k 0 = rw (header-length v) at (getD-append-add (header v) (zs ++ rest) k 0) in
+      e ∙ List·getD-append zs rest 0 k (rw length-replicate h) ∙ getD-replicate 436 k 0 0 h
+
+  pub header-zero : Each (Zero (header v ++ (replicate 436 0 ++ rest))) spareOffsets
+  unfolding header
+  header-zero = refl & refl & refl & refl & refl & refl & refl & refl & refl & upTo-each 436 (λ k. 74 + k) after-zero

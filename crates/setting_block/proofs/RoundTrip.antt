@@ -1,0 +1,138 @@
+-- Reading and writing undo each other. The reader accepts a block that has its length, its check and its mark, whose zero bytes are zero, and that holds startable values:
+-- the block of these values is then its first 510 bytes with their check, the block itself.
+-- The writer accepts startable values: their block has all of that, and holds these values.
+use mathlib.Core.Path.{_≡_, refl, sym, ap, _∙_}
+use mathlib.Core.Bool.{Bool, true, false, not, cond, _&&_, and-assoc, Bool·not-not}
+use mathlib.Core.List.{List, [], _∷_, _++_, append-assoc}
+use Prim.Native.Nat.{ℕ}
+use native.Mathlib.Omega.{arith}
+use lib.Dec.{T, eqb, ltb, eqb→eq}
+use lib.ListN.{length, take, drop, replicate, length-append}
+use lib.Seq.{take-at}
+use borrow.Author.Tests.{eq-eqb, le-ltb}
+use Rattle.integer.specs.Tests.{hold, each}
+use Rattle.integer.proofs.TestLaws.{split, pair, is-true, hold-at}
+use Rattle.block.specs.Refusals.{Row, _when_, gives, declines, firstOf, leaves}
+use Rattle.block.specs.Bytes.{areBytes}
+use Rattle.block.specs.Block.{sumsOf, checked, sealed, placed}
+use Rattle.block.proofs.ByteLaws.{byte-at, checked-is, sealed-checked}
+use Rattle.setting.specs.declared.Setting.{Setting}
+use Rattle.setting.specs.Values.{FieldRule, between, fields, allRight, factorHigh, factorsLow, valueRows, startRows, startable}
+use Rattle.setting.proofs.RowLaws.{noneApplies, none-gives, gives-none}
+use Rattle.setting.proofs.LimitLaws.{startable-is}
+use Rattle.setting_block.specs.Layout.{settingAt, marked, spares, header, blockOf}
+use Rattle.setting_block.specs.Calls.{readRows, writeRows, writeLeaves}
+use Rattle.setting_block.specs.RoundTrip.{ReadThenWrite, WriteThenRead}
+use Rattle.setting_block.proofs.LayoutLaws.{spares-zero, zero-spares, body-is, header-length, header-marked, header-zero, setting-back}
+
+-- ---- rows of which none applies
+
+-- the values that are given are those at hand
+gives-is : {A : Type 0} {a b : A} (rs : List Row) → firstOf rs a ≡ gives b → a ≡ b
+gives-is [] e = cc
+gives-is {a = a} {b = b} (r ∷ rs) e = by (r .applies) (gives-is rs) e
+  where
+    by : (t : Bool) → (firstOf rs a ≡ gives b → a ≡ b) → cond t (declines (r .number)) (firstOf rs a) ≡ gives b → a ≡ b
+    by true rest k = cc
+    by false rest k = rest k
+
+leaves-none : {A : Type 0} (rs : List Row) (a b : A) → T (noneApplies rs) → leaves rs a b ≡ b
+leaves-none [] a b h = refl
+leaves-none (r ∷ rs) a b h = by (r .applies) (leaves-none rs a b) h
+  where
+    by : (t : Bool) → (T (noneApplies rs) → leaves rs a b ≡ b) → T (not t && noneApplies rs) → cond t a (leaves rs a b) ≡ b
+    by true rest k = absurd k
+    by false rest k = rest k
+
+each-++ : {A : Type 0} (t : A → Bool) (l m : List A) → each t (l ++ m) ≡ (each t l && each t m)
+each-++ t [] m = refl
+each-++ t (a ∷ l) m = rw (each-++ t l m) (sym (and-assoc (t a) (each t l) (each t m)))
+
+-- ---- when the reader accepts, and when the writer does
+
+-- with fields gs beside those of the values
+none-beside : (v : Setting) (gs : List FieldRule) → noneApplies (valueRows (fields v ++ gs) v) ≡ hold (startable v ∷ allRight gs ∷ [])
+unfolding valueRows
+none-beside v gs = rw (each-++ (λ f. f .right) (fields v) gs) (by (between 2 4 (v .ends)) (allRight (fields v)) (allRight gs) (not (factorHigh v) && (not (factorsLow v) && true)))
+  where
+    by : (e f g r : Bool) → (not (not e) && (not (not (f && g)) && r)) ≡ ((not (not e) && (not (not f) && r)) && (g && true))
+    by false f g r = refl
+    by true false g r = refl
+    by true true true true = refl
+    by true true true false = refl
+    by true true false true = refl
+    by true true false false = refl
+
+-- what the reader asks of a block
+abbrev tests : List ℕ → List Bool
+tests s = eqb (length s) 512 ∷ checked s ∷ marked s ∷ startable (settingAt s) ∷ allRight (spares s) ∷ []
+
+reads-when : (s : List ℕ) → noneApplies (readRows s) ≡ hold (tests s)
+unfolding readRows
+reads-when s = rw (none-beside (settingAt s) (spares s)) (simp Bool·not-not)
+
+writes-when : (v : Setting) (buffer : List ℕ) → noneApplies (writeRows v buffer) ≡ (startable v && (not (ltb (length buffer) 512) && true))
+unfolding writeRows
+writes-when v buffer = each-++ (λ r. not (r .applies)) (startRows v) ((13 when ltb (length buffer) 512) ∷ [])
+
+-- ---- a block that the reader accepts is the block of its values
+
+block-back : (s : List ℕ) → T (areBytes s) → T (hold (tests s)) → blockOf (settingAt s) ≡ s
+unfolding blockOf
+block-back s bytes h =
+    let at = hold-at (tests s) h in
+    let l : length s ≡ 512 = eqb→eq (length s) 512 (at 0) in
+    ap sealed (body-is s (byte-at s bytes) (omega arith) (at 2) (spares-zero s (at 4))) ∙ sym (checked-is s l (at 1))
+
+pub read-write : ReadThenWrite
+unfolding ReadThenWrite
+read-write s v bytes e buffer l =
+    let same : settingAt s ≡ v = gives-is (readRows s) e in
+    let h : T (hold (tests s)) = rw reads-when at (gives-none (readRows s) (rw (← same) at e)) in
+    let start : T (startable v) = rw same at (hold-at (tests s) h 3) in
+    let back : blockOf v ≡ s = rw same at (block-back s bytes h) in
+    let n : T (noneApplies (writeRows v buffer)) = rw (writes-when v buffer) (pair (startable v) _ start (rw (le-ltb (length buffer) 512 l) tt)) in
+    (none-gives (writeRows v buffer) n, leaves-none (writeRows v buffer) buffer (placed buffer (blockOf v)) n ∙ rw back)
+
+-- ---- the block of startable values is one that the reader accepts, and holds these values
+
+module _ (v : Setting) where
+  abbrev body : List ℕ
+  body = header v ++ replicate 436 0
+
+  body-length : length body ≡ 510
+  body-length = rw (length-append (header v) (replicate 436 0), header-length v)
+
+  sums : List ℕ
+  sums = sumsOf body .a ∷ sumsOf body .b ∷ []
+
+  block-length : length (blockOf v) ≡ 512
+  unfolding blockOf
+  block-length = rw (length-append body, body-length)
+
+  block-parts : blockOf v ≡ header v ++ (replicate 436 0 ++ sums)
+  unfolding blockOf sums
+  block-parts = append-assoc (header v) (replicate 436 0) sums
+
+  values-back : T (startable v) → settingAt (blockOf v) ≡ v
+  values-back h = rw block-parts (setting-back v (replicate 436 0 ++ sums) (startable-is h))
+
+  block-checked : checked (blockOf v) ≡ true
+  unfolding blockOf
+  block-checked = sealed-checked body body-length
+
+  block-tests : T (startable v) → T (hold (tests (blockOf v)))
+  block-tests h =
+      let l : eqb (length (blockOf v)) 512 ≡ true = eq-eqb (length (blockOf v)) 512 block-length in
+      let m : marked (blockOf v) ≡ true = rw block-parts (header-marked v (replicate 436 0 ++ sums)) in
+      let z : allRight (spares (blockOf v)) ≡ true = is-true (zero-spares (blockOf v) (rw block-parts (header-zero v sums))) in
+      let start : startable v ≡ true = is-true h in
+      rw (l, block-checked, m, values-back h, start, z) tt
+
+pub write-read : WriteThenRead
+unfolding WriteThenRead
+write-read v buffer e =
+    let n : T (noneApplies (writeRows v buffer)) = gives-none (writeRows v buffer) e in
+    let start : T (startable v) = split (startable v) _ (rw writes-when at n) .0 in
+    let block : take 512 (writeLeaves v buffer) ≡ blockOf v = rw (leaves-none (writeRows v buffer) buffer (placed buffer (blockOf v)) n) (take-at (blockOf v) (drop 512 buffer) 512 (block-length v)) in
+    rw block (none-gives (readRows (blockOf v)) (rw reads-when (block-tests v start)) ∙ ap gives (values-back v start))

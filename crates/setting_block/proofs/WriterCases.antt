@@ -1,0 +1,52 @@
+-- What the writer gives in each of its cases, and the block that it makes.
+use mathlib.Core.Path.{_≡_, refl, sym, ap, _∙_}
+use mathlib.Core.List.{List, [], _∷_, _++_}
+use Prim.Native.Nat.{ℕ, _+_, _<_, _≤_}
+use native.Mathlib.Omega.{arith}
+use lib.Dec.{ltb}
+use lib.ListN.{length, take, drop}
+use lib.Seq.{take-all, take-append-add}
+use borrow.Author.Tests.{lt-ltb, le-ltb}
+use Rattle.integer.specs.Tests.{Each, none}
+use Rattle.block.specs.declared.Refusal.{Refusal}
+use Rattle.block.specs.declared.Written.{Written}
+use Rattle.block.specs.declared.Written.the-variants.{Done, Refused}
+use Rattle.block.specs.Refusals.{numberOf, Row, Outcome, declines, _when_, firstRefusal, writtenOf, offsetsOf, writtenOffsets}
+use Rattle.block.specs.Block.{placed}
+use Rattle.setting.specs.declared.Setting.{Setting}
+use Rattle.setting.specs.declared.Verdict.{Verdict}
+use Rattle.setting.specs.declared.Verdict.the-variants.{Sound, Unsound}
+use Rattle.setting.specs.Values.{fields, startRows}
+use Rattle.setting.specs.Calls.{Wrong, verdictOutcome, Judges}
+use Rattle.setting_block.specs.Layout.{blockOf}
+use Rattle.setting_block.specs.Calls.{writeRows, Writes}
+use Rattle.setting_block.proofs.Rows.{byOutcome, firstOf-++, leaves-is}
+
+-- the start of a list d over whose first n elements h is copied
+pub copied-start : (h d : List ℕ) (n m : ℕ) → length h ≡ n → take (n + m) (take n h ++ drop n d) ≡ h ++ take m (drop n d)
+copied-start h d n m l = rw (take-all n h (omega arith)) (rw l at (take-append-add h (drop n d) m))
+
+module _ (v : Setting) (buffer : List ℕ) where
+  -- the last row of the writer's
+  abbrev room : List Row
+  room = (13 when ltb (length buffer) 512) ∷ []
+
+  -- what the rows give, by the verdict on the values
+  rows-by : {r : Verdict} → Judges v r → firstRefusal (writeRows v buffer) ≡ byOutcome declines (firstRefusal room) (verdictOutcome r)
+  unfolding writeRows
+  rows-by {r} j = firstOf-++ (tt {0}) room (startRows v) ∙ ap (λ (o : Outcome (Unit {0})). byOutcome declines (firstRefusal room) o) (sym (j .outcome))
+
+  -- the outcome says what is left in the buffer
+  writes-by : {w : Written} {after : List ℕ} → firstRefusal (writeRows v buffer) ≡ writtenOf w → after ≡ byOutcome (λ n. buffer) (placed buffer (blockOf v)) (writtenOf w)
+      → Each (Wrong (fields v)) (writtenOffsets w) → Writes v buffer w after
+  writes-by e b o = record { outcome = sym e; bytes = b ∙ sym (leaves-is (tt {0}) buffer (placed buffer (blockOf v)) (writeRows v buffer) ∙ rw e); offset = o }
+
+  pub not-sound : {q : Refusal} → Judges v (Unsound q) → Writes v buffer (Refused q) buffer
+  not-sound j = writes-by (rows-by j) refl (j .offset)
+
+  module _ (j : Judges v Sound) where
+    pub no-room : length buffer < 512 → {q : Refusal} → numberOf q ≡ 13 → Each (Wrong (fields v)) (offsetsOf q) → Writes v buffer (Refused q) buffer
+    no-room h e o = writes-by (rows-by j ∙ rw (lt-ltb (length buffer) 512 h, e)) refl o
+
+    pub written : 512 ≤ length buffer → Writes v buffer Done (placed buffer (blockOf v))
+    written h = writes-by (rows-by j ∙ rw (le-ltb (length buffer) 512 h)) refl none

@@ -1,0 +1,80 @@
+-- `setting_block::reader::setting_at` meets its contract: each field is what the call that reads it ensures.
+use borrow.Author.Needs.{needs}
+use Rattle.setting_block.specs.Layout.{settingAt}
+use Rattle.setting_block.proofs.reader.setting_at.Statement.{statement}
+use Rattle.setting_block.proofs.reader.setting_at.Tie as tie
+
+end-at-requires : tie.Need-end-at-requires
+end-at-requires c κs = search needs
+
+end-at-requires-2 : tie.Need-end-at-requires-2
+end-at-requires-2 c κs = search needs
+
+end-at-requires-3 : tie.Need-end-at-requires-3
+end-at-requires-3 c κs = search needs
+
+end-at-requires-4 : tie.Need-end-at-requires-4
+end-at-requires-4 c κs = search needs
+
+shared-slice-read-t7 : tie.Need-shared-slice-read-t7
+shared-slice-read-t7 c = search needs
+
+shared-slice-read-t9 : tie.Need-shared-slice-read-t9
+shared-slice-read-t9 c = search needs
+
+shared-slice-read-t11 : tie.Need-shared-slice-read-t11
+shared-slice-read-t11 c = search needs
+
+u32-at-requires : tie.Need-u32-at-requires
+u32-at-requires c κs = search needs
+
+u16-at-requires : tie.Need-u16-at-requires
+u16-at-requires c κs = search needs
+
+u16-at-requires-2 : tie.Need-u16-at-requires-2
+u16-at-requires-2 c κs = search needs
+
+u16-at-requires-3 : tie.Need-u16-at-requires-3
+u16-at-requires-3 c κs = search needs
+
+u16-at-requires-4 : tie.Need-u16-at-requires-4
+u16-at-requires-4 c κs = search needs
+
+u16-at-requires-5 : tie.Need-u16-at-requires-5
+u16-at-requires-5 c κs = search needs
+
+u16-at-requires-6 : tie.Need-u16-at-requires-6
+u16-at-requires-6 c κs = search needs
+
+u16-at-requires-7 : tie.Need-u16-at-requires-7
+u16-at-requires-7 c κs = search needs
+
+returns : tie.Need-returns
+unfolding settingAt
+returns c =
+    let high = c .before .before .before .before .before in
+    let power = high .before .before in
+    let e3 = power .before .before .before .before in
+    rw
+    (e3 .before .before .before .end-at .ensures, e3 .before .before .end-at2 .ensures, e3 .before .end-at3 .ensures, e3 .end-at4 .ensures, power .u32-at .ensures, high .before .u16-at .ensures, high .u16-at2 .ensures, c .before .before .before .before .u16-at3 .ensures, c .before .before .before .u16-at4 .ensures, c .before .before .u16-at5 .ensures, c .before .u16-at6 .ensures, c .u16-at7 .ensures)
+
+pub setting-at-spec : {M : Type 1} → statement M
+setting-at-spec =
+    tie.close
+    (tie.spec
+    end-at-requires
+    end-at-requires-2
+    end-at-requires-3
+    end-at-requires-4
+    shared-slice-read-t7
+    shared-slice-read-t9
+    shared-slice-read-t11
+    u32-at-requires
+    u16-at-requires
+    u16-at-requires-2
+    u16-at-requires-3
+    u16-at-requires-4
+    u16-at-requires-5
+    u16-at-requires-6
+    u16-at-requires-7
+    returns)

@@ -1,0 +1,64 @@
+-- The setting reader and writer (document 01, "What the relay declines": setting reader 1 to 7, setting writer 4 to 7, 13).
+use mathlib.Core.Path.{_≡_}
+use mathlib.Core.Bool.{not}
+use mathlib.Core.List.{List, [], _∷_, _++_}
+use Prim.Native.Nat.{ℕ}
+use lib.Dec.{eqb, ltb}
+use lib.ListN.{length}
+use Rattle.integer.specs.Tests.{Each}
+use Rattle.block.specs.declared.Written.{Written}
+use Rattle.block.specs.Refusals.{numberOf, Outcome, gives, declines, Row, _when_, firstOf, firstRefusal, writtenOf, leaves, offsetsOf, writtenOffsets}
+use Rattle.block.specs.Block.{checked, placed}
+use Rattle.setting.specs.declared.Setting.{Setting}
+use Rattle.setting.specs.Values.{FieldRule, fields, valueRows, startRows}
+use Rattle.setting.specs.Calls.{Wrong}
+use Rattle.setting_block.specs.declared.ReadSetting.{ReadSetting}
+use Rattle.setting_block.specs.declared.ReadSetting.the-variants.{Accepted, Refused}
+use Rattle.setting_block.specs.Layout.{settingAt, marked, spares, blockOf}
+
+-- ---- the reader
+
+-- the fields and zero bytes of a block
+abbrev pub blockFields : List ℕ → List FieldRule
+blockFields s = fields (settingAt s) ++ spares s
+
+-- what the reader declines a block with, in order
+unfoldable pub readRows : List ℕ → List Row
+readRows s =
+    (1 when not (eqb (length s) 512))
+    ∷ (2 when not (checked s))
+    ∷ (3 when not (marked s))
+    ∷ valueRows (blockFields s) (settingAt s)
+
+abbrev pub readOf : List ℕ → Outcome Setting
+readOf s = firstOf (readRows s) (settingAt s)
+
+-- the reader's answer in the table's terms, and the offset that it names
+abbrev pub outcomeOf : ReadSetting → Outcome Setting
+outcomeOf (Accepted v) = gives v
+outcomeOf (Refused r) = declines (numberOf r)
+
+abbrev pub readOffsets : ReadSetting → List ℕ
+readOffsets (Accepted v) = []
+readOffsets (Refused r) = offsetsOf r
+
+-- what reading the block s gives
+pub record Reads (s : List ℕ) (r : ReadSetting) : Type 0 where
+  pub outcome : outcomeOf r ≡ readOf s
+  pub offset : Each (Wrong (blockFields s)) (readOffsets r)
+
+-- ---- the writer
+
+-- 4 to 7, then 13: the buffer ends before the block does
+unfoldable pub writeRows : Setting → (buffer : List ℕ) → List Row
+writeRows v buffer = startRows v ++ ((13 when ltb (length buffer) 512) ∷ [])
+
+-- the buffer after the call: the block as its first 512 bytes, or as before
+abbrev pub writeLeaves : Setting → (buffer : List ℕ) → List ℕ
+writeLeaves v buffer = leaves (writeRows v buffer) buffer (placed buffer (blockOf v))
+
+-- what writing the values v to a buffer gives
+pub record Writes (v : Setting) (before : List ℕ) (r : Written) (after : List ℕ) : Type 0 where
+  pub outcome : writtenOf r ≡ firstRefusal (writeRows v before)
+  pub bytes : after ≡ writeLeaves v before
+  pub offset : Each (Wrong (fields v)) (writtenOffsets r)

@@ -1,0 +1,446 @@
+/* Whole records of calls: `calls input` writes the blocks, `calls expect` the
+ * answers. The first byte of a block tells its kind: a setting block starts a
+ * relay, each set of a sample block is one sample call, a reset block is one
+ * reset call, and a list block one sample call of a list of any length. */
+#include "draw.h"
+
+#include <stdio.h>
+#include <string.h>
+
+#define RECORDS 300
+#define MOST_BLOCKS 140
+#define RESET_KIND 0x52
+#define SAMPLE_KIND 0x53
+#define SETTING_KIND 0x54
+#define LIST_KIND 0x4C
+
+enum scene_kind { HEALTHY, FAULT, INRUSH, BURSTS, NOISE };
+
+/* One record: its blocks, and whether all its sets are a healthy bank's. */
+struct record {
+    uint8_t block[MOST_BLOCKS][BLOCK_BYTES];
+    size_t blocks, calls;
+    int healthy;
+};
+
+/* What goes on at the bank: a fault now on, now off, for some sets. */
+struct scene {
+    struct setting setting;
+    enum scene_kind kind;
+    struct wave fault;
+    struct bank bank;
+    size_t time;
+    int on;
+    int64_t left;
+};
+
+/* The next block of a record, all zero. */
+static uint8_t *next_block(struct record *r)
+{
+    uint8_t *block = r->block[r->blocks++];
+
+    memset(block, 0, BLOCK_BYTES);
+    return block;
+}
+
+/* Lowest settings, at which a healthy bank would start soonest. */
+static void most_sensitive(struct setting *s)
+{
+    s->confirm = 1;
+    s->pick_up = 100;
+    s->high_set = 2500;
+    s->slope1 = s->slope2 = 10;
+    s->third_section = 1500;
+    s->flags = 0;
+}
+
+/* A fault of any size; but for plain faults with harmonics. */
+static void draw_fault(struct draw *d, struct scene *scene)
+{
+    unsigned harmonics = scene->kind == FAULT ? 0 : (unsigned)draw_from(d, 0, 3);
+
+    draw_wave(d, &scene->setting, draw_spread(d, 400, 40000), harmonics,
+              &scene->fault);
+}
+
+/* Faults until one's D can be the high-set; blocking then leaves the trip to
+ * the high-set alone. */
+static void aim_scene(struct draw *d, struct scene *scene)
+{
+    int16_t list[WINDOW_NUMBERS];
+    int tries = 20;
+
+    do {
+        draw_fault(d, scene);
+        for (size_t k = 0; k < WINDOW_SETS; k++)
+            wave_set(&scene->fault, &scene->setting, k, list + 12 * k);
+    } while (!aim_high_set(d, list, &scene->setting) && --tries != 0);
+    scene->setting.flags |= BLOCK_ON_SECOND | BLOCK_ON_FIFTH;
+    scene->setting.second = scene->setting.fifth = 10;
+    scene->setting.confirm = (uint8_t)draw_from(d, 1, 3);
+}
+
+/* Scene number i: kinds in turn, and for each kind all confirm counts in
+ * turn; mostly low pick-up. */
+static void draw_scene(struct draw *d, size_t i, struct scene *scene)
+{
+    static const enum scene_kind kind[10] = {HEALTHY, FAULT, INRUSH, BURSTS, NOISE,
+                                             HEALTHY, FAULT, INRUSH, BURSTS, HEALTHY};
+    struct setting *s = &scene->setting;
+
+    memset(scene, 0, sizeof *scene);
+    scene->kind = kind[i % 10];
+    draw_setting(d, (uint8_t)draw_from(d, 2, 4), s);
+    s->confirm = (uint8_t)(1 + i / 10 % 24);
+    s->pick_up = (uint16_t)draw_from(d, 100, draw_chance(d, 70) ? 600 : 2500);
+    if (scene->kind == HEALTHY && draw_chance(d, 70))
+        most_sensitive(s);
+    if (scene->kind == INRUSH)
+        s->flags |= (uint8_t)draw_from(d, 1, 3);
+    draw_bank(d, s, &scene->bank);
+    draw_fault(d, scene);
+    if (scene->kind == INRUSH && draw_chance(d, 40))
+        aim_scene(d, scene);
+    scene->left = draw_from(d, 1, 15);
+}
+
+/* The next set of the scene; off, a fault leaves through current or none. */
+static void scene_set(struct draw *d, struct scene *scene, int16_t *list)
+{
+    const struct setting *s = &scene->setting;
+
+    memset(list, 0, SET_NUMBERS * sizeof list[0]);
+    if (scene->kind == NOISE) {
+        for (size_t i = 0; i < 3u * s->ends; i++)
+            list[i] = (int16_t)draw_from(d, -SAMPLE_LIMIT, SAMPLE_LIMIT);
+        return;
+    }
+    if (scene->kind != HEALTHY && scene->left-- == 0) {
+        scene->on = !scene->on;
+        scene->left = draw_from(d, 1, scene->kind == BURSTS ? 16 : 60);
+        if (draw_chance(d, 40))
+            draw_fault(d, scene);
+    }
+    if (scene->on)
+        wave_set(&scene->fault, s, scene->time, list);
+    else if (scene->kind == HEALTHY || scene->time % 64 < 32)
+        healthy_set(d, s, &scene->bank, scene->time, list);
+    scene->time++;
+}
+
+/* Makes a set one that a relay declines: by size, by an unused end, or both. */
+static void spoil_set(struct draw *d, const struct setting *s, int16_t *list)
+{
+    static const int16_t beyond[4] = {32001, -32001, 32767, -32768};
+    int64_t kind = draw_from(d, 0, 2);
+    size_t unused = 3u * s->ends;
+
+    if (s->ends == MAX_ENDS || kind != 0)
+        list[draw_from(d, 0, 11)] = beyond[draw_from(d, 0, 3)];
+    if (s->ends < MAX_ENDS && kind != 1)
+        list[draw_from(d, (int64_t)unused, 11)] |= (int16_t)draw_spread(d, 1, 999);
+}
+
+/* Spoils one set of 25. */
+static void maybe_spoil(struct draw *d, const struct setting *s, int16_t *list)
+{
+    if (draw_chance(d, 4))
+        spoil_set(d, s, list);
+}
+
+/* A sample block of up to 21 sets of the scene. */
+static void add_samples(struct draw *d, struct scene *scene, struct record *r,
+                        int spoil)
+{
+    int16_t list[BLOCK_NUMBERS];
+    size_t sets = (size_t)draw_from(d, 0, BLOCK_SETS);
+
+    for (size_t i = 0; i < sets; i++) {
+        scene_set(d, scene, list + 12 * i);
+        if (spoil)
+            maybe_spoil(d, &scene->setting, list + 12 * i);
+    }
+    write_samples(next_block(r), BLOCK_BYTES, 0, list, 12 * sets);
+    r->calls += sets;
+}
+
+/* A sample block that its reader refuses: 2, 8 or 9; makes no call. */
+static void add_refused_samples(struct draw *d, struct scene *scene,
+                                struct record *r)
+{
+    uint8_t *block;
+    int64_t kind = draw_from(d, 0, 4);
+    size_t calls = r->calls;
+
+    add_samples(d, scene, r, 0);
+    block = r->block[r->blocks - 1];
+    if (kind == 0)
+        block[draw_from(d, 1, 511)] ^= (uint8_t)(1u << draw_from(d, 0, 7));
+    else if (kind == 1)
+        block[1] = (uint8_t)draw_from(d, 22, 255);
+    else if (kind == 2)
+        block[draw_from(d, 2, 3)] = (uint8_t)draw_from(d, 1, 255);
+    else
+        block[draw_from(d, 4 + 24 * block[1], 509)] = (uint8_t)draw_from(d, 1, 255);
+    if (kind != 0)
+        seal_block(block);
+    r->calls = calls;
+}
+
+/* A list block; of twelve numbers it holds a set of the scene. */
+static void add_list(struct draw *d, struct scene *scene, struct record *r)
+{
+    static const uint8_t length[6] = {0, 11, 13, 24, 252, 36};
+    size_t n = draw_chance(d, 50) ? 12 : length[draw_from(d, 0, 5)];
+    uint8_t *block = next_block(r);
+    int16_t list[BLOCK_NUMBERS];
+
+    if (draw_chance(d, 10))
+        n = (size_t)draw_from(d, 0, BLOCK_NUMBERS);
+    for (size_t i = 0; i < n; i++)
+        list[i] = (int16_t)draw_from(d, -32768, 32767);
+    if (n == 12) {
+        scene_set(d, scene, list);
+        maybe_spoil(d, &scene->setting, list);
+    }
+    block[0] = LIST_KIND;
+    block[1] = (uint8_t)n;
+    for (size_t i = 0; i < n; i++) {
+        block[4 + 2 * i] = (uint8_t)list[i];
+        block[5 + 2 * i] = (uint8_t)((uint16_t)list[i] >> 8);
+    }
+    r->calls++;
+}
+
+/* A reset call. */
+static void add_reset(struct record *r)
+{
+    next_block(r)[0] = RESET_KIND;
+    r->calls++;
+}
+
+/* A record of 20 to 120 calls on a relay that starts. */
+static void build_calls(struct draw *d, size_t i, struct record *r)
+{
+    struct scene scene;
+    size_t wanted = (size_t)draw_from(d, 20, 99);
+
+    draw_scene(d, i, &scene);
+    r->healthy = scene.kind == HEALTHY;
+    lay_setting(&scene.setting, next_block(r));
+    while (r->calls < wanted) {
+        int64_t kind = draw_from(d, 0, 99);
+
+        if (kind < 50)
+            add_samples(d, &scene, r, kind < 30);
+        else if (kind < 85)
+            add_list(d, &scene, r);
+        else if (kind < 95 || r->blocks > MOST_BLOCKS - 30)
+            add_reset(r);
+        else
+            add_refused_samples(d, &scene, r);
+    }
+}
+
+/* Changes a sound setting block in a way that may lead to a refusal. */
+static void damage_setting(struct draw *d, int wanted, uint8_t *block)
+{
+    const struct field *f = &FIELD[draw_from(d, 1, FIELDS - 1)];
+    struct setting s;
+
+    if (wanted == MARK_WRONG) {
+        block[draw_from(d, 1, 3)] ^= (uint8_t)draw_from(d, 1, 255);
+    } else if (wanted == ENDS_WRONG) {
+        block[4] = (uint8_t)draw_spread(d, 0, 255);
+    } else if (wanted == FIELD_WRONG) {
+        put_field(block, f, draw_chance(d, 50) ? f->low - 1 : f->high + 1);
+        if (draw_chance(d, 30))
+            block[draw_from(d, 74, 509)] = (uint8_t)draw_from(d, 1, 255);
+    } else {
+        draw_wide_setting(d, &s);
+        lay_setting(&s, block);
+    }
+    seal_block(block);
+    if (wanted == CHECK_WRONG)
+        block[draw_from(d, 1, 511)] ^= (uint8_t)draw_from(d, 1, 254);
+}
+
+/* A record on a setting that is refused with 2 to 7, and calls after it. */
+static void build_refused(struct draw *d, size_t i, struct record *r)
+{
+    int wanted = CHECK_WRONG + (int)(i % 6);
+    struct setting unused;
+    struct scene scene;
+    uint8_t *block = next_block(r);
+    size_t offset;
+
+    draw_scene(d, i, &scene);
+    do {
+        lay_setting(&scene.setting, block);
+        damage_setting(d, wanted, block);
+    } while (read_setting(block, BLOCK_BYTES, &unused, &offset) !=
+             (enum refusal)wanted);
+    add_samples(d, &scene, r, 0);
+    add_reset(r);
+    add_samples(d, &scene, r, 0);
+}
+
+/* Record number i: each sixth on a refused setting. */
+static void build(struct draw *d, size_t i, struct record *r)
+{
+    r->blocks = r->calls = 0;
+    r->healthy = 0;
+    if (i % 6 == 5)
+        build_refused(d, i / 6, r);
+    else
+        build_calls(d, i / 6 * 5 + i % 6, r);
+}
+
+/* Whether an answer is one that a healthy bank may get. */
+static int healthy_answer(const struct answer *a, size_t ends)
+{
+    static const int32_t most[5] = {0, 0, 45, 69, 91};
+
+    for (size_t y = 0; a->filling == 0 && y < SYSTEMS; y++)
+        if (a->system[y].start || a->latched[y] ||
+            a->system[y].differential > most[ends])
+            return 0;
+    return 1;
+}
+
+/* One sample call and its line; whether it is right for a healthy bank. */
+static int sample_call(struct relay *relay, const int16_t *list, size_t n)
+{
+    struct answer a;
+    enum refusal refusal = relay_sample(relay, list, n, &a);
+
+    if (refusal != ACCEPTED) {
+        printf("refused %d\n", refusal);
+        return 1;
+    }
+    if (a.filling != 0) {
+        printf("F %u\n", a.filling);
+        return 1;
+    }
+    printf("M");
+    for (size_t y = 0; y < SYSTEMS; y++) {
+        const struct measured *m = &a.system[y];
+
+        printf(" %d %d %d %d %d %d %d", m->differential, m->restraint, m->second,
+               m->fifth, m->start, m->blocked, a.latched[y]);
+    }
+    printf("\n");
+    return healthy_answer(&a, relay->setting.ends);
+}
+
+/* The sample calls of a sample block, or its refusal. */
+static int sample_calls(struct relay *relay, const uint8_t *block)
+{
+    int16_t list[BLOCK_NUMBERS];
+    size_t count = 0;
+    enum refusal refusal = read_samples(block, BLOCK_BYTES, list, &count);
+    int right = 1;
+
+    if (refusal != ACCEPTED) {
+        printf("block %d\n", refusal);
+        return 1;
+    }
+    for (size_t i = 0; i < count; i += SET_NUMBERS)
+        right &= sample_call(relay, list + i, SET_NUMBERS);
+    return right;
+}
+
+/* The sample call of a list block. */
+static int list_call(struct relay *relay, const uint8_t *block)
+{
+    int16_t list[BLOCK_NUMBERS] = {0};
+
+    for (size_t i = 0; i < block[1]; i++)
+        list[i] = (int16_t)(uint16_t)(block[4 + 2 * i] | block[5 + 2 * i] << 8);
+    return sample_call(relay, list, block[1]);
+}
+
+/* The reset call and its line. */
+static int reset_call(struct relay *relay)
+{
+    enum refusal refusal = relay_reset(relay);
+
+    if (refusal != ACCEPTED)
+        printf("refused %d\n", refusal);
+    else
+        printf("reset\n");
+    return 1;
+}
+
+/* Starts a relay on a setting block; whether there is one now. */
+static int setting_call(struct relay *relay, const uint8_t *block, size_t length)
+{
+    struct setting s;
+    size_t offset;
+    enum refusal refusal = read_setting(block, length, &s, &offset);
+
+    if (refusal == ACCEPTED)
+        refusal = relay_start(&s, relay, &offset);
+    printf("setting %d\n", refusal);
+    return refusal == ACCEPTED;
+}
+
+/* The lines of one record; 0 when a healthy bank starts or differs. */
+static int put_expected(const struct record *r)
+{
+    struct relay relay;
+    int started = setting_call(&relay, r->block[0], BLOCK_BYTES), right = 1;
+
+    for (size_t i = 1; started && i < r->blocks; i++) {
+        const uint8_t *block = r->block[i];
+
+        if (block[0] == SAMPLE_KIND)
+            right &= sample_calls(&relay, block);
+        else if (block[0] == LIST_KIND)
+            right &= list_call(&relay, block);
+        else
+            right &= reset_call(&relay);
+    }
+    return right || !r->healthy;
+}
+
+/* The blocks of one record. */
+static int put_input(const struct record *r)
+{
+    return fwrite(r->block, BLOCK_BYTES, r->blocks, stdout) == r->blocks;
+}
+
+/* The stream's end: a setting block that lacks its last byte. */
+static int put_short(struct draw *d, int input)
+{
+    uint8_t block[BLOCK_BYTES];
+    struct setting s;
+    struct relay relay;
+
+    draw_setting(d, 2, &s);
+    lay_setting(&s, block);
+    if (input)
+        return fwrite(block, 1, BLOCK_BYTES - 1, stdout) == BLOCK_BYTES - 1;
+    return !setting_call(&relay, block, BLOCK_BYTES - 1);
+}
+
+int main(int argc, char **argv)
+{
+    static struct record r;
+    struct draw d = {0xCA115};
+    int input = argc == 2 && strcmp(argv[1], "input") == 0, right = 1;
+
+    if (!input && (argc != 2 || strcmp(argv[1], "expect") != 0)) {
+        fputs("usage: calls input|expect\n", stderr);
+        return 2;
+    }
+    for (size_t i = 0; i < RECORDS && right; i++) {
+        build(&d, i, &r);
+        right = input ? put_input(&r) : put_expected(&r);
+        if (!right)
+            fprintf(stderr, "calls: record %zu is not as it must be\n", i);
+    }
+    if (!right || !put_short(&d, input))
+        return 1;
+    return fflush(stdout) != 0;
+}

@@ -1,0 +1,433 @@
+#include "draw.h"
+
+#include <string.h>
+
+/* Multiplied xorshift of 64 bits; the state must not be zero. */
+uint64_t draw_word(struct draw *d)
+{
+    d->state ^= d->state >> 12;
+    d->state ^= d->state << 25;
+    d->state ^= d->state >> 27;
+    return d->state * 0x2545F4914F6CDD1DULL;
+}
+
+/* Even over low to high, both included. */
+int64_t draw_from(struct draw *d, int64_t low, int64_t high)
+{
+    uint64_t span = (uint64_t)(high - low) + 1;
+
+    return low + (int64_t)((draw_word(d) >> 11) % span);
+}
+
+/* Over low to high (low not below 0) with each size about as often; both
+ * edges come up now and then. */
+int64_t draw_spread(struct draw *d, int64_t low, int64_t high)
+{
+    int64_t span = high - low;
+    unsigned bits = 0;
+
+    if (draw_chance(d, 3))
+        return draw_chance(d, 50) ? low : high;
+    while (bits < 62 && span >> bits != 0)
+        bits++;
+    bits = (unsigned)draw_from(d, 0, bits);
+    span = draw_from(d, 0, ((int64_t)1 << bits) - 1);
+    return low + span > high ? high : low + span;
+}
+
+/* Yes in so many of a hundred draws. */
+int draw_chance(struct draw *d, unsigned percent)
+{
+    return draw_from(d, 0, 99) < percent;
+}
+
+/* ---- Setting fields ---- */
+
+const struct field FIELD[FIELDS] = {
+    {4, 1, 2, 4},         {5, 1, 0, 7},         {6, 1, 1, 24},
+    {8, 4, 1, 50000},     {12, 4, 1, 15000},    {16, 4, 1, 50000},
+    {20, 1, 0, 0},        {21, 1, 0, 1},        {24, 4, 1, 15000},
+    {28, 4, 1, 50000},    {32, 1, 0, 11},       {33, 1, 0, 1},
+    {36, 4, 1, 15000},    {40, 4, 1, 50000},    {44, 1, 0, 11},
+    {45, 1, 0, 1},        {48, 4, 1, 15000},    {52, 4, 1, 50000},
+    {56, 1, 0, 11},       {57, 1, 0, 1},        {60, 2, 100, 2500},
+    {62, 2, 2500, 30000}, {64, 2, 10, 150},     {66, 2, 10, 150},
+    {68, 2, 1500, 10000}, {70, 2, 10, 50},      {72, 2, 10, 80}};
+
+/* Puts a value into a field as far as its bytes hold it. */
+void put_field(uint8_t *block, const struct field *field, uint32_t value)
+{
+    for (size_t i = 0; i < field->width; i++)
+        block[field->at + i] = (uint8_t)(value >> (8 * i));
+}
+
+/* ---- Settings ---- */
+
+/* How far two numbers lie apart. */
+static int64_t distance(int64_t a, int64_t b)
+{
+    return a < b ? b - a : a - b;
+}
+
+/* Voltage and current whose factor comes near the wanted one: of several
+ * splits of their product the best. */
+void aim_factor(struct draw *d, uint32_t power, int64_t factor, struct end *end)
+{
+    int64_t product = factor * 780000 * power / ((int64_t)FACTOR_ONE * 1351);
+    int64_t low = product / 50000 + 1, high = product < 15000 ? product : 15000;
+    struct setting trial = {.power = power};
+    int64_t best = INT64_MAX;
+
+    for (int i = 0; i < 40; i++) {
+        int64_t v = high < low ? draw_from(d, 1, low < 15000 ? low : 15000)
+                               : draw_spread(d, low, high);
+        int64_t c = product / v + draw_from(d, 0, 1), off;
+
+        trial.end[0].voltage = (uint32_t)v;
+        trial.end[0].current = (uint32_t)(c < 1 ? 1 : c > 50000 ? 50000 : c);
+        off = distance((int64_t)matching_factor(&trial, 0), factor);
+        if (off < best) {
+            best = off;
+            end->voltage = trial.end[0].voltage;
+            end->current = trial.end[0].current;
+        }
+    }
+}
+
+/* From a range, its edges more often. */
+static uint16_t draw_limit(struct draw *d, int64_t low, int64_t high)
+{
+    if (draw_chance(d, 10))
+        return (uint16_t)(draw_chance(d, 50) ? low : high);
+    return (uint16_t)draw_from(d, low, high);
+}
+
+/* All fields but the ends, over their whole ranges. */
+static void draw_thresholds(struct draw *d, struct setting *s)
+{
+    s->flags = (uint8_t)draw_from(d, 0, 7);
+    s->confirm = (uint8_t)draw_limit(d, 1, 24);
+    s->pick_up = draw_limit(d, 100, 2500);
+    s->high_set = draw_limit(d, 2500, 30000);
+    s->slope1 = draw_limit(d, 10, 150);
+    s->slope2 = draw_limit(d, 10, 150);
+    s->third_section = draw_limit(d, 1500, 10000);
+    s->second = draw_limit(d, 10, 50);
+    s->fifth = draw_limit(d, 10, 80);
+}
+
+/* A factor from low to 16: both edges, near 1, or anywhere. */
+static int64_t draw_factor(struct draw *d, int64_t low)
+{
+    if (draw_chance(d, 15))
+        return FACTOR_HIGHEST;
+    if (draw_chance(d, 15))
+        return low;
+    if (draw_chance(d, 30))
+        return draw_from(d, 50000, 90000);
+    return draw_spread(d, low, FACTOR_HIGHEST);
+}
+
+/* Powers and ends whose 65,536 k lies halfway between whole numbers: with S
+ * 4096 c, V 375 a, I 65 c b it is 1351 a b / 2, and a, b are odd. */
+static void draw_halfway(struct draw *d, struct setting *s)
+{
+    int64_t c = draw_from(d, 1, 12);
+
+    s->power = (uint32_t)(4096 * c);
+    for (size_t z = 0; z < s->ends; z++) {
+        int64_t a = 2 * draw_from(d, 0, 19) + 1;
+        int64_t most = 1552 / a < 50000 / (65 * c) ? 1552 / a : 50000 / (65 * c);
+        int64_t b = 2 * draw_from(d, 24 / a, (most - 1) / 2) + 1;
+
+        s->end[z].voltage = (uint32_t)(375 * a);
+        s->end[z].current = (uint32_t)(65 * c * b);
+    }
+}
+
+/* A setting that a relay starts on. Of three or four ends, all but two may
+ * have any factor down to zero. */
+void draw_setting(struct draw *d, uint8_t ends, struct setting *s)
+{
+    size_t offset;
+
+    do {
+        size_t first = (size_t)draw_from(d, 0, ends - 1);
+        size_t other = (first + (size_t)draw_from(d, 1, ends - 1)) % ends;
+
+        memset(s, 0, sizeof *s);
+        s->ends = ends;
+        s->power = (uint32_t)draw_spread(d, 1, 50000);
+        draw_thresholds(d, s);
+        for (size_t z = 0; z < ends; z++) {
+            int64_t low = z == first || z == other ? FACTOR_SECOND_LOWEST : 0;
+
+            aim_factor(d, s->power, draw_factor(d, low), &s->end[z]);
+            s->end[z].group = (uint8_t)(z == 0 ? 0 : draw_from(d, 0, 11));
+            s->end[z].filter = (uint8_t)draw_from(d, 0, 1);
+        }
+        if (draw_chance(d, 6))
+            draw_halfway(d, s);
+    } while (setting_refusal(s, &offset) != ACCEPTED);
+}
+
+/* Every field in its range, factors to either side of both limits. */
+void draw_wide_setting(struct draw *d, struct setting *s)
+{
+    memset(s, 0, sizeof *s);
+    s->ends = (uint8_t)draw_from(d, 2, 4);
+    s->power = (uint32_t)(draw_chance(d, 50) ? draw_from(d, 1, 50000)
+                                             : draw_spread(d, 1, 50000));
+    draw_thresholds(d, s);
+    for (size_t z = 0; z < s->ends; z++) {
+        int64_t factor = draw_chance(d, 40)   ? draw_from(d, 25000, 90000)
+                         : draw_chance(d, 70) ? draw_from(d, 90000, 1080000)
+                                              : draw_spread(d, 0, 2000000);
+
+        aim_factor(d, s->power, factor, &s->end[z]);
+        s->end[z].group = (uint8_t)(z == 0 ? 0 : draw_from(d, 0, 11));
+        s->end[z].filter = (uint8_t)draw_from(d, 0, 1);
+    }
+}
+
+/* ---- Waves ---- */
+
+/* One cycle of a cosine in twelve steps, in 1/1560. */
+static int64_t cycle(size_t k)
+{
+    static const int64_t quarter[4] = {1560, 1351, 780, 0};
+
+    k %= 12;
+    if (k > 6)
+        k = 12 - k;
+    return k <= 3 ? quarter[k] : -quarter[6 - k];
+}
+
+/* A sample held within what a relay accepts. */
+int16_t clip_sample(int64_t sample)
+{
+    if (sample > SAMPLE_LIMIT)
+        return SAMPLE_LIMIT;
+    return (int16_t)(sample < -SAMPLE_LIMIT ? -SAMPLE_LIMIT : sample);
+}
+
+/* Samples that a current of the given level at reference becomes at an end. */
+static int64_t level_samples(const struct setting *s, size_t z, int64_t level)
+{
+    int64_t factor = (int64_t)matching_factor(s, z);
+
+    return factor == 0 ? level : level * FACTOR_ONE / factor;
+}
+
+/* Currents around a level at random angles; bits 0 and 1 of harmonics put
+ * second and fifth on top. Some phases and ends carry none. */
+void draw_wave(struct draw *d, const struct setting *s, int64_t level,
+               unsigned harmonics, struct wave *wave)
+{
+    int ends = (int)draw_from(d, 1, 15), phases = (int)draw_from(d, 1, 7);
+
+    memset(wave, 0, sizeof *wave);
+    for (size_t i = 0; i < 3u * s->ends; i++) {
+        int64_t top = level_samples(s, i / 3, level);
+
+        if (i >= 3 && !(ends >> i / 3 & 1))
+            continue;
+        if (!(phases >> i % 3 & 1))
+            continue;
+        for (unsigned h = 0; h < 3; h++) {
+            int64_t part = h == 0 ? top : draw_from(d, 0, 60) * top / 100;
+
+            if (h > 0 && !(harmonics >> (h - 1) & 1))
+                continue;
+            if (part > 2 * SAMPLE_LIMIT)
+                part = 2 * SAMPLE_LIMIT;
+            wave->cosine[h][i] = (int32_t)draw_from(d, -part, part);
+            wave->sine[h][i] = (int32_t)draw_from(d, -part, part);
+        }
+    }
+}
+
+/* The wave at set k, clipped to what a relay accepts. */
+void wave_set(const struct wave *wave, const struct setting *s, size_t k,
+              int16_t list[SET_NUMBERS])
+{
+    static const size_t harmonic[3] = {1, 2, 5};
+
+    memset(list, 0, SET_NUMBERS * sizeof list[0]);
+    for (size_t i = 0; i < 3u * s->ends; i++) {
+        int64_t sum = 0;
+
+        for (size_t h = 0; h < 3; h++) {
+            sum += wave->cosine[h][i] * cycle(harmonic[h] * k);
+            sum += wave->sine[h][i] * cycle(harmonic[h] * k + 9);
+        }
+        list[i] = clip_sample(sum / 1560);
+    }
+}
+
+/* Puts the high-set just at a system's D over twelve sets, or one below. */
+int aim_high_set(struct draw *d, const int16_t list[WINDOW_NUMBERS],
+                 struct setting *s)
+{
+    struct measured m[SYSTEMS];
+    int32_t values[WINDOW_NUMBERS];
+    int64_t h;
+
+    for (size_t k = 0; k < WINDOW_SETS; k++)
+        match_set(s, list + 12 * k, values + 12 * k);
+    measure_window(s, values, m);
+    h = m[draw_from(d, 0, 2)].differential - draw_from(d, 0, 1);
+    if (h < 2500 || h > 30000)
+        return 0;
+    s->high_set = (uint16_t)h;
+    return 1;
+}
+
+/* ---- A healthy bank ---- */
+
+/* Thousandths of reference that 32,000 samples are at an end. */
+static int64_t end_reach(const struct setting *s, size_t z)
+{
+    const struct end *e = &s->end[z];
+
+    return (int64_t)e->voltage * e->current * 1351 * SAMPLE_LIMIT /
+           ((int64_t)780 * s->power);
+}
+
+/* Limb currents up to a part of each end's reach; the end of the largest
+ * factor takes what the others leave. */
+void draw_bank(struct draw *d, const struct setting *s, struct bank *bank)
+{
+    memset(bank, 0, sizeof *bank);
+    bank->shape = (unsigned)draw_from(d, 0, 3);
+    for (size_t z = 1; z < s->ends; z++)
+        if (matching_factor(s, z) > matching_factor(s, bank->balance))
+            bank->balance = z;
+    for (size_t z = 0; z < s->ends; z++) {
+        int64_t reach = end_reach(s, z) * draw_from(d, 0, 100) / 100;
+
+        if (draw_chance(d, 20))
+            reach = reach < 2000000 ? reach : 2000000;
+        for (int limb = 0; limb < 2; limb++) {
+            bank->cosine[z][limb] = draw_from(d, -reach, reach) / 2;
+            bank->sine[z][limb] = draw_from(d, -reach, reach) / 2;
+        }
+        if (s->end[z].filter)
+            bank->zero_sequence[z] = draw_spread(d, 0, 24000000);
+    }
+}
+
+/* Limb current at set k: a cosine, one on an offset, a square or noise. */
+static int64_t limb_current(struct draw *d, const struct bank *bank, size_t z,
+                            int limb, size_t k)
+{
+    int64_t c = bank->cosine[z][limb], s = bank->sine[z][limb];
+    int64_t wave = c / 1560 * cycle(k) + s / 1560 * cycle(k + 9);
+
+    if (bank->shape == 0)
+        return wave + c % 1560;
+    if (bank->shape == 1)
+        return (wave + s) / 2 + c % 1560;
+    if (bank->shape == 2)
+        return k % 12 < 6 ? c : -c;
+    return draw_from(d, c < 0 ? c : -c, c < 0 ? -c : c);
+}
+
+/* Whole numbers w that sum to zero over ends and over limbs. */
+static void draw_limbs(struct draw *d, const struct setting *s,
+                       const struct bank *bank, size_t k, int64_t w[MAX_ENDS][3])
+{
+    memset(w, 0, MAX_ENDS * sizeof w[0]);
+    for (size_t z = 0; z < s->ends; z++) {
+        if (z == bank->balance)
+            continue;
+        for (int limb = 0; limb < 2; limb++)
+            w[z][limb] = limb_current(d, bank, z, limb, k);
+        w[z][2] = -w[z][0] - w[z][1];
+        for (int limb = 0; limb < 3; limb++)
+            w[bank->balance][limb] -= w[z][limb];
+    }
+}
+
+/* T(12-g) of the limb currents for one phase, times 2340; root three over
+ * three is 1351/2340. */
+static int64_t line_current(const int64_t w[3], size_t phase, unsigned group)
+{
+    int64_t p = w[phase], n = w[(phase + 1) % 3], q = w[(phase + 2) % 3];
+
+    switch ((12 - group) % 12) {
+    case 0: return 2340 * p;
+    case 2: return -2340 * n;
+    case 4: return 2340 * q;
+    case 6: return -2340 * p;
+    case 8: return 2340 * n;
+    case 10: return -2340 * q;
+    case 1: return 1351 * (p - n);
+    case 3: return 1351 * (q - n);
+    case 5: return 1351 * (q - p);
+    case 7: return 1351 * (n - p);
+    case 9: return 1351 * (n - q);
+    default: return 1351 * (p - q);
+    }
+}
+
+/* A sample within 1/2 of line/2340 thousandths over k plus zero sequence:
+ * line * S / (4053 V I) + zero / 1000, a half going either way. */
+static int64_t near_sample(struct draw *d, const struct setting *s, size_t z,
+                           int64_t line, int64_t zero)
+{
+    __int128 vi = (__int128)s->end[z].voltage * s->end[z].current;
+    __int128 bottom = 2 * 4053 * 1000 * vi;
+    __int128 top = 2 * ((__int128)line * s->power * 1000 + zero * 4053 * vi);
+    __int128 up = top + bottom / 2, sample;
+
+    sample = up / bottom - (up % bottom < 0);
+    if (up == sample * bottom && draw_chance(d, 50))
+        sample--;
+    if (sample > SAMPLE_LIMIT || sample < -SAMPLE_LIMIT)
+        return SAMPLE_LIMIT + 1;
+    return (int64_t)sample;
+}
+
+/* Samples of the bank's ends; 0 when one would be beyond the limit. */
+static int bank_samples(struct draw *d, const struct setting *s,
+                        const struct bank *bank, int64_t w[MAX_ENDS][3],
+                        int16_t list[SET_NUMBERS])
+{
+    for (size_t z = 0; z < s->ends; z++) {
+        int64_t zero = bank->zero_sequence[z];
+
+        if (s->end[z].filter && bank->shape == 3)
+            zero = draw_from(d, -zero, zero);
+        for (size_t phase = 0; phase < 3; phase++) {
+            int64_t line = line_current(w[z], phase, s->end[z].group);
+            int64_t sample = near_sample(d, s, z, line, zero);
+
+            if (sample > SAMPLE_LIMIT)
+                return 0;
+            list[3 * z + phase] = (int16_t)sample;
+        }
+    }
+    return 1;
+}
+
+/* One set of a healthy bank, limb currents taken back until it fits. */
+void healthy_set(struct draw *d, const struct setting *s, const struct bank *bank,
+                 size_t k, int16_t list[SET_NUMBERS])
+{
+    struct bank part = *bank;
+    int64_t w[MAX_ENDS][3];
+
+    memset(list, 0, SET_NUMBERS * sizeof list[0]);
+    draw_limbs(d, s, &part, k, w);
+    while (!bank_samples(d, s, &part, w, list)) {
+        for (size_t z = 0; z < s->ends; z++) {
+            for (int limb = 0; limb < 2; limb++) {
+                part.cosine[z][limb] = part.cosine[z][limb] * 9 / 10;
+                part.sine[z][limb] = part.sine[z][limb] * 9 / 10;
+            }
+            part.zero_sequence[z] = part.zero_sequence[z] * 9 / 10;
+        }
+        draw_limbs(d, s, &part, k, w);
+    }
+}

@@ -1,0 +1,54 @@
+/* Drawing of settings, waves and healthy banks for the comparing programs.
+ * All from a seed by whole-number steps, so that each run is the same. */
+#ifndef SECOND_DRAW_H
+#define SECOND_DRAW_H
+
+#include "relay.h"
+
+struct draw {
+    uint64_t state;
+};
+
+uint64_t draw_word(struct draw *d);
+int64_t draw_from(struct draw *d, int64_t low, int64_t high);
+int64_t draw_spread(struct draw *d, int64_t low, int64_t high);
+int draw_chance(struct draw *d, unsigned percent);
+
+/* A setting field in the block: where it lies and its range at a used end. */
+struct field {
+    size_t at, width;
+    uint32_t low, high;
+};
+#define FIELDS 27
+extern const struct field FIELD[FIELDS];
+void put_field(uint8_t *block, const struct field *field, uint32_t value);
+
+/* Settings. */
+void aim_factor(struct draw *d, uint32_t power, int64_t factor, struct end *end);
+void draw_setting(struct draw *d, uint8_t ends, struct setting *s);
+void draw_wide_setting(struct draw *d, struct setting *s);
+
+/* A current in every phase of every end: fundamental, second and fifth. */
+struct wave {
+    int32_t cosine[3][SET_NUMBERS], sine[3][SET_NUMBERS];
+};
+void draw_wave(struct draw *d, const struct setting *s, int64_t level,
+               unsigned harmonics, struct wave *wave);
+void wave_set(const struct wave *wave, const struct setting *s, size_t k,
+              int16_t list[SET_NUMBERS]);
+int16_t clip_sample(int64_t sample);
+int aim_high_set(struct draw *d, const int16_t list[WINDOW_NUMBERS],
+                 struct setting *s);
+
+/* Currents of a healthy bank at each set, in thousandths per limb. */
+struct bank {
+    unsigned shape;
+    size_t balance;
+    int64_t cosine[MAX_ENDS][2], sine[MAX_ENDS][2];
+    int64_t zero_sequence[MAX_ENDS];
+};
+void draw_bank(struct draw *d, const struct setting *s, struct bank *bank);
+void healthy_set(struct draw *d, const struct setting *s, const struct bank *bank,
+                 size_t k, int16_t list[SET_NUMBERS]);
+
+#endif

@@ -1,0 +1,490 @@
+/* The numbers to meet, and the forms of relay.c that were worked out
+ * differently against the plain ones. */
+#include "draw.h"
+
+#include <stdio.h>
+#include <string.h>
+
+static unsigned checks, failures;
+
+/* One check: what was found against what is wanted. */
+static void meet(const char *what, int64_t found, int64_t wanted)
+{
+    checks++;
+    if (found == wanted)
+        return;
+    failures++;
+    printf("second: %s is %lld, not %lld\n", what, (long long)found,
+           (long long)wanted);
+}
+
+/* Two ends, factor 1 at both, group 0, no filter, no blocking. */
+static struct setting plain_setting(void)
+{
+    struct setting s = {.ends = 2, .confirm = 1, .power = 1351};
+
+    s.end[0] = s.end[1] = (struct end){780, 1000, 0, 0};
+    s.pick_up = 200;
+    s.high_set = 8000;
+    s.slope1 = 30;
+    s.slope2 = 70;
+    s.third_section = 4000;
+    s.second = 20;
+    s.fifth = 35;
+    return s;
+}
+
+/* Factors and the limits on them. */
+static void check_factors(void)
+{
+    static const struct {
+        uint32_t v, i, s, factor;
+    } table[] = {{780, 1000, 1351, 65536},
+                 {780, 16000, 1351, 1048576},
+                 {780, 500, 1351, 32768},
+                 {1100, 300, 400, 93647},
+                 {200, 1200, 400, 68107}};
+    static const struct {
+        uint32_t first, other;
+        int refusal;
+    } limit[] = {{16000, 1000, 0}, {16001, 1000, 6}, {1000, 16001, 6},
+                 {500, 500, 0},    {499, 499, 7},    {16000, 499, 7}};
+    struct setting s = plain_setting();
+    size_t offset;
+
+    for (size_t i = 0; i < sizeof table / sizeof table[0]; i++) {
+        s.power = table[i].s;
+        s.end[0] = (struct end){table[i].v, table[i].i, 0, 0};
+        meet("factor", (int64_t)matching_factor(&s, 0), table[i].factor);
+    }
+    s = plain_setting();
+    for (size_t i = 0; i < sizeof limit / sizeof limit[0]; i++) {
+        s.end[0].current = limit[i].first;
+        s.end[1].current = limit[i].other;
+        meet("factor limit", setting_refusal(&s, &offset), limit[i].refusal);
+    }
+}
+
+/* Matched numbers of one end: factor by current, group, filter, phases. */
+static void check_matching(void)
+{
+    static const struct {
+        uint32_t current;
+        uint8_t group, filter;
+        int16_t sample[3];
+        int32_t matched[3];
+    } table[] = {{500, 0, 0, {1, -1, 0}, {1, 0, 0}},
+                 {1000, 5, 0, {1000, 0, -1000}, {-1155, 577, 577}},
+                 {1000, 5, 1, {1000, 0, -1000}, {-1155, 577, 577}},
+                 {1000, 0, 1, {300, 0, 0}, {200, -100, -100}}};
+    struct setting s = plain_setting();
+
+    for (size_t i = 0; i < sizeof table / sizeof table[0]; i++) {
+        int16_t list[SET_NUMBERS] = {0};
+        int32_t v[SET_NUMBERS];
+
+        s.end[1] = (struct end){780, table[i].current, table[i].group,
+                                table[i].filter};
+        memcpy(list + 3, table[i].sample, sizeof table[i].sample);
+        match_set(&s, list, v);
+        for (size_t y = 0; y < 3; y++)
+            meet("matched number", v[3 + y], table[i].matched[y]);
+        meet("other end", v[0] | v[1] | v[2] | v[6] | v[9], 0);
+    }
+}
+
+/* Quotient rounded down, for any sign of top. */
+static int64_t floor_of(__int128 top, __int128 bottom)
+{
+    __int128 quotient = top / bottom;
+
+    return (int64_t)(quotient * bottom > top ? quotient - 1 : quotient);
+}
+
+/* The list of group operations, each over 1351 * 3, for the three phases
+ * p, n, q with or without zero sequence taken out. */
+static int64_t listed_operation(unsigned g, int filter, int64_t p, int64_t n,
+                                int64_t q)
+{
+    int64_t sum = p + n + q, zero = filter ? 0 : 1351 * sum;
+    int64_t p3 = 3 * p - (filter ? sum : 0), n3 = 3 * n - (filter ? sum : 0);
+    int64_t q3 = 3 * q - (filter ? sum : 0);
+
+    switch (g) {
+    case 0: return 1351 * p3;
+    case 2: return 1351 * -n3;
+    case 4: return 1351 * q3;
+    case 6: return 1351 * -p3;
+    case 8: return 1351 * n3;
+    case 10: return 1351 * -q3;
+    case 1: return 780 * 3 * (p - n) + zero;
+    case 3: return 780 * 3 * (q - n) + zero;
+    case 5: return 780 * 3 * (q - p) + zero;
+    case 7: return 780 * 3 * (n - p) + zero;
+    case 9: return 780 * 3 * (n - q) + zero;
+    default: return 780 * 3 * (p - q) + zero;
+    }
+}
+
+/* Matching by weights against the listed operations, at every group and end. */
+static void check_groups(void)
+{
+    struct draw d = {0x5EC0DD};
+
+    for (unsigned i = 0; i < 4800; i++) {
+        size_t z = 1 + i % 3;
+        int16_t list[SET_NUMBERS];
+        int32_t v[SET_NUMBERS];
+        struct setting s;
+
+        draw_setting(&d, 4, &s);
+        s.end[z].group = (uint8_t)(i / 3 % 12);
+        s.end[z].filter = (uint8_t)(i / 36 % 2);
+        for (size_t j = 0; j < SET_NUMBERS; j++)
+            list[j] = (int16_t)draw_from(&d, -SAMPLE_LIMIT, SAMPLE_LIMIT);
+        match_set(&s, list, v);
+        for (size_t y = 0; y < 3; y++) {
+            int64_t t = listed_operation(s.end[z].group, s.end[z].filter,
+                                         list[3 * z + y], list[3 * z + (y + 1) % 3],
+                                         list[3 * z + (y + 2) % 3]);
+            __int128 top = (__int128)matching_factor(&s, z) * t;
+            __int128 bottom = (__int128)65536 * 1351 * 3;
+
+            meet("group", v[3 * z + y], floor_of(2 * top + bottom, 2 * bottom));
+        }
+    }
+}
+
+/* Amplitude straight from its definition, its root by counting bits down. */
+static int64_t defined_amplitude(const int32_t *u, unsigned h)
+{
+    static const int64_t t[12] = {1560,  1351,  780,  0, -780, -1351,
+                                  -1560, -1351, -780, 0, 780,  1351};
+    int64_t c = 0, s = 0, root = 0;
+
+    for (unsigned k = 0; k < 12; k++) {
+        c += t[h * k % 12] * u[k];
+        s += t[(h * k + 9) % 12] * u[k];
+    }
+    c = floor_of(2 * (__int128)c + 9360, 2 * 9360);
+    s = floor_of(2 * (__int128)s + 9360, 2 * 9360);
+    for (int64_t bit = (int64_t)1 << 30; bit != 0; bit >>= 1)
+        if ((root + bit) * (root + bit) <= c * c + s * s)
+            root += bit;
+    return root;
+}
+
+/* Listed windows, then random ones against the definition. */
+static void check_amplitudes(void)
+{
+    static const unsigned harmonic[3] = {1, 2, 5};
+    int32_t square[12], flat[12], u[12];
+    struct draw d = {0xA3F11};
+
+    for (int k = 0; k < 12; k++) {
+        square[k] = k < 6 ? 100 : -100;
+        flat[k] = 100;
+    }
+    meet("square D", amplitude(square, 1), 128);
+    meet("square H2", amplitude(square, 2), 0);
+    meet("square H5", amplitude(square, 5), 34);
+    meet("flat D", amplitude(flat, 1), 0);
+    for (unsigned i = 0; i < 3000; i++) {
+        int64_t top = draw_spread(&d, 0, 3200000);
+
+        for (int k = 0; k < 12; k++)
+            u[k] = (int32_t)(draw_chance(&d, 20) ? top : draw_from(&d, -top, top));
+        meet("amplitude", amplitude(u, harmonic[i % 3]),
+             defined_amplitude(u, harmonic[i % 3]));
+    }
+}
+
+/* The characteristic at the listed points and at its knees. */
+static void check_characteristic(void)
+{
+    static const struct {
+        int64_t r, d;
+    } first[] = {{0, 201}, {200, 201}, {1200, 351}, {8000, 1371}, {10000, 2071}};
+    struct setting s = plain_setting();
+
+    for (size_t i = 0; i < sizeof first / sizeof first[0]; i++) {
+        meet("start", starts(&s, first[i].d, first[i].r), 1);
+        meet("no start", starts(&s, first[i].d - 1, first[i].r), 0);
+    }
+}
+
+/* The all-zero block, and samples at their limit. */
+static void check_refusals(void)
+{
+    static const int16_t sample[4] = {32000, 32001, -32000, -32001};
+    struct setting s = plain_setting(), back;
+    uint8_t block[BLOCK_BYTES] = {0};
+    struct relay relay, before;
+    struct answer answer;
+    size_t offset;
+
+    meet("all zero", read_setting(block, BLOCK_BYTES, &back, &offset), 3);
+    meet("start", relay_start(&s, &relay, &offset), 0);
+    for (size_t i = 0; i < 4; i++) {
+        int16_t list[SET_NUMBERS] = {0};
+
+        before = relay;
+        list[2] = sample[i];
+        meet("sample", relay_sample(&relay, list, 12, &answer), i % 2 ? 10 : 0);
+        if (i % 2)
+            meet("record", memcmp(&relay, &before, sizeof relay), 0);
+        list[11] = 1;
+        meet("order", relay_sample(&relay, list, 12, &answer), i % 2 ? 10 : 11);
+        meet("list", relay_sample(&relay, list, 13, &answer), 14);
+    }
+    meet("held", relay.fill, 2);
+}
+
+/* Refusal 12 by each cause, in order before 14, and in reset. */
+static void check_records(void)
+{
+    struct setting s = plain_setting();
+    struct relay fresh, relay[6];
+    struct answer answer;
+    size_t offset;
+
+    meet("start", relay_start(&s, &fresh, &offset), 0);
+    for (size_t i = 0; i < 6; i++)
+        relay[i] = fresh;
+    relay[1].fill = 13;
+    relay[2].values[143] = 800001;
+    relay[3].values[141] = -800001;
+    relay[4].counters[2] = 2;
+    relay[5].setting.end[1].current = 499;
+    relay[5].setting.end[0].current = 499;
+    relay[0].values[143] = 800000;
+    relay[0].values[141] = -800000;
+    relay[0].fill = 12;
+    relay[0].counters[2] = 1;
+    for (size_t i = 0; i < 6; i++) {
+        struct relay one = relay[i];
+
+        meet("record", relay_sample(&one, NULL, 0, &answer), i ? 12 : 14);
+        meet("as before", memcmp(&one, &relay[i], sizeof one), 0);
+        meet("reset", relay_reset(&one), i ? 12 : 0);
+        meet("counter", one.counters[2], i == 4 ? 2 : 0);
+    }
+}
+
+/* Refusals of the setting reader and its first wrong offsets. */
+static void check_setting_block(void)
+{
+    static const struct {
+        size_t at;
+        uint8_t value;
+        int refusal;
+        size_t offset;
+    } table[] = {{4, 1, 4, 0},     {4, 5, 4, 0},     {5, 8, 5, 5},
+                 {6, 0, 5, 6},     {6, 25, 5, 6},    {7, 1, 5, 7},
+                 {10, 1, 5, 8},    {20, 1, 5, 20},   {21, 2, 5, 21},
+                 {22, 1, 5, 22},   {23, 1, 5, 23},   {32, 12, 5, 32},
+                 {39, 1, 5, 36},   {41, 1, 5, 40},   {57, 1, 5, 57},
+                 {61, 250, 5, 60}, {72, 81, 5, 72},  {74, 1, 5, 74},
+                 {509, 1, 5, 509}, {3, 0x32, 3, 0}, {32, 11, 0, 0}};
+    struct setting s = plain_setting(), back;
+    uint8_t block[BLOCK_BYTES + 1];
+    size_t offset;
+
+    for (size_t i = 0; i < sizeof table / sizeof table[0]; i++) {
+        lay_setting(&s, block);
+        block[table[i].at] = table[i].value;
+        meet("check", read_setting(block, BLOCK_BYTES, &back, &offset), 2);
+        meet("length", read_setting(block, BLOCK_BYTES + 1, &back, &offset), 1);
+        seal_block(block);
+        meet("read", read_setting(block, BLOCK_BYTES, &back, &offset),
+             table[i].refusal);
+        meet("offset", (int64_t)offset, (int64_t)table[i].offset);
+    }
+}
+
+/* What the setting writer writes reads back; only its 512 bytes change. */
+static void check_setting_writer(void)
+{
+    struct draw d = {0x317E};
+
+    for (int i = 0; i < 500; i++) {
+        uint8_t block[BLOCK_BYTES + 1], again[BLOCK_BYTES];
+        struct setting s, back;
+        size_t offset;
+
+        memset(block, 0xA5, sizeof block);
+        draw_setting(&d, (uint8_t)(2 + i % 3), &s);
+        meet("short", write_setting(&s, block, BLOCK_BYTES - 1), 13);
+        meet("untouched", block[0] == 0xA5 && block[511] == 0xA5, 1);
+        meet("write", write_setting(&s, block, sizeof block), 0);
+        meet("behind", block[512], 0xA5);
+        meet("read", read_setting(block, BLOCK_BYTES, &back, &offset), 0);
+        meet("again", write_setting(&back, again, BLOCK_BYTES), 0);
+        meet("same bytes", memcmp(block, again, BLOCK_BYTES), 0);
+        s.ends = 5;
+        meet("before short", write_setting(&s, block, 0), 4);
+    }
+}
+
+/* The sample writer at each block of a record and beyond; what it writes
+ * comes back, and what lies around stays. */
+static void check_sample_block(void)
+{
+    uint8_t record[3 * BLOCK_BYTES + 100], around[sizeof record];
+    int16_t list[BLOCK_NUMBERS], back[BLOCK_NUMBERS];
+    struct draw d = {77};
+    size_t count = 0;
+
+    memset(record, 0xA5, sizeof record);
+    for (size_t i = 0; i < BLOCK_NUMBERS; i++)
+        list[i] = (int16_t)draw_from(&d, -32768, 32767);
+    memcpy(around, record, sizeof record);
+    for (size_t n = 0; n <= 264; n += 1)
+        meet("list", write_samples(record, 511, 0, list, n),
+             n % 12 || n > 252 ? 14 : 13);
+    meet("far", write_samples(record, sizeof record, 3, list, 12), 13);
+    meet("farther", write_samples(record, sizeof record, SIZE_MAX, list, 12), 13);
+    meet("wrap", write_samples(record, sizeof record, SIZE_MAX / 512 + 1, list, 0),
+         13);
+    meet("untouched", memcmp(record, around, sizeof record), 0);
+    for (size_t n = 0; n <= 252; n += 12) {
+        meet("write", write_samples(record, sizeof record, 1, list, n), 0);
+        meet("read", read_samples(record + 512, 512, back, &count), 0);
+        meet("count", (int64_t)count, (int64_t)n);
+        meet("same", memcmp(list, back, 2 * n), 0);
+        meet("before", memcmp(record, around, 512), 0);
+        meet("behind", memcmp(record + 1024, around + 1024, 612), 0);
+    }
+}
+
+/* Refusals of the sample block reader in their order. */
+static void check_sample_reader(void)
+{
+    static const struct {
+        size_t at;
+        uint8_t value;
+        int refusal;
+    } table[] = {{1, 22, 8}, {2, 1, 9},   {3, 1, 9},   {28, 1, 9},
+                 {509, 1, 9}, {0, 0x54, 3}, {27, 1, 0}, {1, 0, 9}};
+    int16_t list[12] = {0, 0, 0, 0, 0, 0, 0, 0, 0, 0, 0, 5}, back[BLOCK_NUMBERS];
+    uint8_t block[BLOCK_BYTES];
+    size_t count = 0;
+
+    for (size_t i = 0; i < sizeof table / sizeof table[0]; i++) {
+        meet("write", write_samples(block, 512, 0, list, 12), 0);
+        block[table[i].at] = table[i].value;
+        meet("check", read_samples(block, 512, back, &count), 2);
+        meet("length", read_samples(block, 511, back, &count), 1);
+        seal_block(block);
+        meet("read", read_samples(block, 512, back, &count), table[i].refusal);
+    }
+}
+
+static const char BENCH[] = "set state D1 D2 D3 trip\n"
+                            "1 F 0 0 0 0\n"
+                            "2 F 0 0 0 0\n"
+                            "3 F 0 0 0 0\n"
+                            "4 F 0 0 0 0\n"
+                            "5 F 0 0 0 0\n"
+                            "6 F 0 0 0 0\n"
+                            "7 F 0 0 0 0\n"
+                            "8 F 0 0 0 0\n"
+                            "9 F 0 0 0 0\n"
+                            "10 F 0 0 0 0\n"
+                            "11 F 0 0 0 0\n"
+                            "12 M 499 0 0 1\n";
+
+/* The bench program's lines for its one block. */
+static size_t bench_lines(struct relay *relay, const int16_t *list, char *text,
+                          size_t room)
+{
+    size_t used = (size_t)snprintf(text, room, "set state D1 D2 D3 trip\n");
+
+    for (int i = 0; i < 12; i++) {
+        struct answer a = {0};
+        int32_t *d[3] = {&a.system[0].differential, &a.system[1].differential,
+                         &a.system[2].differential};
+
+        meet("bench set", relay_sample(relay, list + 12 * i, 12, &a), 0);
+        used += (size_t)snprintf(text + used, room - used, "%d %c %d %d %d %d\n",
+                                 i + 1, a.filling ? 'F' : 'M', *d[0], *d[1], *d[2],
+                                 relay->latches[0] + 2 * relay->latches[1] +
+                                     4 * relay->latches[2]);
+    }
+    return used;
+}
+
+/* The bench example, by calls and as one measured block. */
+static void check_bench(void)
+{
+    struct setting s = plain_setting();
+    int16_t list[144] = {0};
+    uint8_t setting[BLOCK_BYTES], samples[BLOCK_BYTES];
+    struct relay relay;
+    char text[1000];
+    size_t offset;
+
+    list[12 * 11] = 3000;
+    meet("start", relay_start(&s, &relay, &offset), 0);
+    meet("bench length", (int64_t)bench_lines(&relay, list, text, sizeof text),
+         sizeof BENCH - 1);
+    meet("bench text", strcmp(text, BENCH), 0);
+    meet("write", write_setting(&s, setting, sizeof setting), 0);
+    meet("write", write_samples(samples, sizeof samples, 0, list, 144), 0);
+    meet("measured", measure_block(setting, 512, samples, 512), 101);
+    meet("setting first", measure_block(setting, 511, samples, 511), 1);
+    samples[509] = 1;
+    meet("samples next", measure_block(setting, 512, samples, 512), 2);
+}
+
+/* Blocking holds a start back but not the high-set; a reset unlatches. */
+static void check_trip(void)
+{
+    struct setting s = plain_setting();
+    struct relay relay;
+    struct answer a;
+    size_t offset;
+
+    s.flags = BLOCK_ON_SECOND;
+    s.confirm = 2;
+    s.high_set = 2500;
+    for (int level = 0; level < 2; level++) {
+        int16_t list[SET_NUMBERS] = {0};
+
+        meet("start", relay_start(&s, &relay, &offset), 0);
+        for (int k = 0; k < 14; k++) {
+            list[0] = (int16_t)(k == 3 ? level ? 32000 : 6000 : 0);
+            meet("set", relay_sample(&relay, list, 12, &a), 0);
+        }
+        meet("starts", a.system[0].start, 1);
+        meet("blocked", a.system[0].blocked, 1);
+        meet("other blocked", a.system[1].blocked, 0);
+        meet("latched", a.latched[0], level);
+        meet("counter", relay.counters[0], level ? 2 : 0);
+        meet("reset", relay_reset(&relay), 0);
+        meet("unlatched", relay.latches[0] + relay.counters[0] + relay.fill, 12);
+    }
+}
+
+int main(void)
+{
+    check_factors();
+    check_matching();
+    check_groups();
+    check_amplitudes();
+    check_characteristic();
+    check_refusals();
+    check_records();
+    check_setting_block();
+    check_setting_writer();
+    check_sample_block();
+    check_sample_reader();
+    check_bench();
+    check_trip();
+    if (failures != 0) {
+        printf("second: selftest %u of %u checks fail\n", failures, checks);
+        return 1;
+    }
+    printf("second: selftest %u checks\n", checks);
+    return 0;
+}
