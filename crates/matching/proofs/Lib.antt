@@ -1,3 +1,4 @@
+-- From linear forms of the samples to the bounds of Total.antt, which other crates cite.
 mod Bits
 mod Forms
 mod Rows

@@ -11,9 +11,9 @@ use Rattle.integer.specs.Nearest.{Near}
 use Rattle.integer.proofs.Reading.{ints, linear, _⇒_}
 use Rattle.integer.proofs.Laws.{ring, literals, within-≤, within-+, within-*, within-is, times-within, cancel-times}
 use Rattle.integer.proofs.HalfUnit.{nearest-near}
-use Rattle.matching.specs.Matching.{Three, three, even, sum3, operated, matched}
+use Rattle.matching.specs.Matching.{Three, three, even, sum3, matched}
 use Rattle.matching.specs.Sets.{turned}
-use Rattle.matching.specs.Bank.{ideal, NearIdeal}
+use Rattle.matching.specs.Bank.{NearIdeal}
 use Rattle.matching.specs.Sized.{Sampled}
 use Rattle.matching.proofs.Forms.{_·_, own, next, Linear, linear-p, linear-n, linear-q, linear-form, linear-operated, operated-over, linear-ideal, ideal-over, size, form-within}
 use Rattle.matching.proofs.Rows.{matching, currents, spread, chain, Row, row}

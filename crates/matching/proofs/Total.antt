@@ -5,7 +5,6 @@ use Prim.Native.Nat.{ℕ, _*_, _<_}
 use native.Mathlib.Omega.{arith}
 use lib.IntN.{ℤ, pos, _*ℤ_, _-ℤ_}
 use Rattle.integer.specs.Within.{_within_}
-use Rattle.integer.specs.Nearest.{Near}
 use Rattle.integer.specs.Sum.{sum}
 use Rattle.integer.proofs.Reading.{ints, _⇒_}
 use Rattle.integer.proofs.Laws.{within-≤, within-is, cancel-times}

@@ -59,13 +59,14 @@ fn blank() -> Setting
 fn counts(v: Setting, m: Reading) -> bool
     ensures { λ r. ⌜ r ≡ countsOf v (m .d) (m .start) (m .blocked) ⌝ }
 {
-    if (v.high as u32) < m.d {
+    let above = (v.high as u32) < m.d;
+    if m.blocked {
+        return above;
+    }
+    if m.start {
         return true;
     }
-    if m.blocked {
-        return false;
-    }
-    m.start
+    above
 }
 
 // The counter and the latch of a system after it was measured.

@@ -56,3 +56,33 @@ pub fn flush(buffer: &[u8], at: usize) {
         io::write_all(1, &buffer[..at]);
     }
 }
+
+// Writes a space and a signed number to standard output.
+pub fn print_signed(x: i64) {
+    if x < 0 {
+        io::write_all(1, b" -");
+    } else {
+        io::write_all(1, b" ");
+    }
+    io::print_decimal(1, magnitude(x));
+}
+
+// Writes a space and a number to standard output.
+pub fn print_field(n: u64) {
+    io::write_all(1, b" ");
+    io::print_decimal(1, n);
+}
+
+// Writes a space and a test as 0 or 1 to standard output.
+pub fn print_flag(b: bool) {
+    if b {
+        io::write_all(1, b" 1");
+    } else {
+        io::write_all(1, b" 0");
+    }
+}
+
+// Writes a line's end to standard output.
+pub fn end_line() {
+    io::write_all(1, b"\n");
+}
