@@ -1,4 +1,5 @@
--- Worked numbers of the matching: those that document 01 marks (T) under "Numbers to meet", and one set at every group, by source 001.
+-- Worked numbers of the matching at every group, by source 001: one table, and one lemma over it. Those that document 01 marks (T) stand in the
+-- crate `measuring`.
 use mathlib.Core.Path.{_≡_, refl}
 use mathlib.Core.Bool.{Bool, true, false}
 use mathlib.Core.List.{List, [], _∷_}
@@ -30,21 +31,6 @@ allGiven (r ∷ rs) = r .given ∷ allGiven rs
 allAsked : List Row → List Three
 allAsked [] = []
 allAsked (r ∷ rs) = r .asked ∷ allAsked rs
-
--- ---- document 01, "Numbers to meet"
-
-marked : List Row
-marked =
-    row (trio 32768 0 false (three (pos 1) (pos 0) (pos 0))) (three (pos 1) (pos 0) (pos 0))
-    ∷ row (trio 32768 0 false (three (neg 1) (pos 0) (pos 0))) (three (pos 0) (pos 0) (pos 0))
-    ∷ row (trio 65536 5 false (three (pos 1000) (pos 0) (neg 1000))) (three (neg 1155) (pos 577) (pos 577))
-    ∷ row (trio 65536 5 true (three (pos 1000) (pos 0) (neg 1000))) (three (neg 1155) (pos 577) (pos 577))
-    ∷ row (trio 65536 0 true (three (pos 300) (pos 0) (pos 0))) (three (pos 200) (neg 100) (neg 100))
-    ∷ []
-
-marked-met : allGiven marked ≡ allAsked marked
-unfolding marked allGiven allAsked trio seen matched operated operation nearest floor
-marked-met = refl
 
 -- ---- source 001, 2.2: "Mathematical operations on the low-voltage side", the table for even and the table for odd vector group characteristics
 

@@ -1,21 +1,96 @@
--- The numbers to meet (document 01, "Numbers to meet", the rows marked (T)) about amplitudes and the characteristic, as one table: what the
--- definitions give, and what is asked.
+-- The numbers to meet (document 01, "Numbers to meet", all that are marked (T)): one table of what the definitions give and what is asked, and one
+-- lemma over it.
 use mathlib.Core.Path.{_≡_, refl}
-use mathlib.Core.Bool.{Bool, cond}
-use mathlib.Core.List.{List, [], _∷_}
+use mathlib.Core.Bool.{Bool, true, false, cond}
+use mathlib.Core.List.{List, [], _∷_, _++_, map}
 use Prim.Native.Nat.{ℕ, _/_, _%_}
 use lib.Dec.{ltb, eqb}
-use lib.IntN.{ℤ, pos, negsuc}
+use lib.IntN.{ℤ, pos, negsuc, negℤ}
 use Rattle.integer.specs.Nearest.{nearest, floor}
 use Rattle.integer.specs.Root.{rootBy}
 use Rattle.integer.specs.Sum.{sum}
 use Rattle.integer.specs.Lists.{upTo}
+use Rattle.block.specs.Refusals.{Outcome, gives, declines, firstRefusal}
 use Rattle.setting.specs.declared.End.{End}
 use Rattle.setting.specs.declared.Setting.{Setting}
-use Rattle.matching.specs.Sets.{sysA}
+use Rattle.setting.specs.Values.{fields, factor, factorHigh, factorsLow, valueRows, startRows}
+use Rattle.matching.specs.Matching.{Three, three, operation, operated, matched}
+use Rattle.matching.specs.Sets.{sysA, sysB, sysC, seen}
 use Rattle.amplitude.specs.Amplitude.{t, weightedSum, cycle, amplitude}
 use Rattle.measuring.specs.Characteristic.{starts}
 use Rattle.measuring.specs.Measuring.{differential, second, fifth}
+
+-- A row: what the definitions give, and the number to meet.
+abbrev Row : Type 0
+Row = ℤ × ℤ
+
+abbrev neg : ℕ → ℤ
+neg n = negℤ (pos n)
+
+-- ---- settings of two ends, of group 0 with no filter, and P 200, m1 30, m2 70, Q 4,000
+
+abbrev rated : (voltage current : ℕ) → End
+rated v i = record { voltage = v; current = i; group = 0; filter = 0 }
+
+abbrev twoEnds : (power : ℕ) → End → End → Setting
+twoEnds s a b =
+    record {
+      ends = 2;
+      flags = 0;
+      confirm = 1;
+      power = s;
+      e0 = a;
+      e1 = b;
+      e2 = rated 0 0;
+      e3 = rated 0 0;
+      basic = 200;
+      high = 8000;
+      slope1 = 30;
+      slope2 = 70;
+      third = 4000;
+      second = 15;
+      fifth = 30;
+    }
+
+-- K of an end by V, I and S
+abbrev factorOf : (voltage current power : ℕ) → ℤ
+factorOf v i s = factor (twoEnds s (rated v i) (rated v i)) 0
+
+-- the number of the refusal of a setting with V 780 and S 1,351, by I of each end; 0 where it is accepted
+abbrev numberOr0 : Outcome (Unit {0}) → ℤ
+numberOr0 (gives u) = pos 0
+numberOr0 (declines n) = pos n
+
+abbrev refusalOf : (current0 current1 : ℕ) → ℤ
+refusalOf i j = numberOr0 (firstRefusal (startRows (twoEnds 1351 (rated 780 i) (rated 780 j))))
+
+settings : List Row
+settings =
+    (factorOf 780 1000 1351, pos 65536)
+    ∷ (factorOf 780 16000 1351, pos 1048576)
+    ∷ (refusalOf 16000 1000, pos 0)
+    ∷ (refusalOf 16001 1000, pos 6)
+    ∷ (refusalOf 500 500, pos 0)
+    ∷ (refusalOf 499 499, pos 7)
+    ∷ (factorOf 1100 300 400, pos 93647)
+    ∷ (factorOf 200 1200 400, pos 68107)
+    ∷ []
+
+-- ---- the matched numbers of systems 1, 2, 3, for the samples x of A, B, C
+
+abbrev trio : (K g : ℕ) (filter : Bool) → Three → (a b c : ℤ) → List Row
+trio K g f x a b c =
+    (matched (pos K) g f (seen sysA x), a) ∷ (matched (pos K) g f (seen sysB x), b) ∷ (matched (pos K) g f (seen sysC x), c) ∷ []
+
+matchings : List Row
+matchings =
+    trio 32768 0 false (three (pos 1) (pos 0) (pos 0)) (pos 1) (pos 0) (pos 0)
+    ++ trio 32768 0 false (three (neg 1) (pos 0) (pos 0)) (pos 0) (pos 0) (pos 0)
+    ++ trio 65536 5 false (three (pos 1000) (pos 0) (neg 1000)) (neg 1155) (pos 577) (pos 577)
+    ++ trio 65536 5 true (three (pos 1000) (pos 0) (neg 1000)) (neg 1155) (pos 577) (pos 577)
+    ++ trio 65536 0 true (three (pos 300) (pos 0) (pos 0)) (pos 200) (neg 100) (neg 100)
+
+-- ---- windows and the characteristic
 
 -- six 100, then six −100; and twelve of 100
 square : ℕ → ℤ
@@ -28,60 +103,32 @@ flat k = pos 100
 window : (ℕ → ℤ) → List ℤ
 window u = upTo 144 (λ i. cond (eqb (i % 12) 0) (u (i / 12)) (pos 0))
 
--- P 200, m1 30, m2 70, Q 4,000; the other fields do not matter
-end : End
-end = record { voltage = 780; current = 1000; group = 0; filter = 0 }
-
 setting : Setting
-setting =
-    record {
-      ends = 2;
-      flags = 0;
-      confirm = 1;
-      power = 1351;
-      e0 = end;
-      e1 = end;
-      e2 = end;
-      e3 = end;
-      basic = 200;
-      high = 8000;
-      slope1 = 30;
-      slope2 = 70;
-      third = 4000;
-      second = 15;
-      fifth = 35;
-    }
+setting = twoEnds 1351 (rated 780 1000) (rated 780 1000)
 
 -- 1 where it starts
-starting : (R D : ℕ) → ℕ
-starting R D = cond (starts setting D R) 1 0
+starting : (R D : ℕ) → ℤ
+starting R D = cond (starts setting D R) (pos 1) (pos 0)
 
--- each row: what the definitions give, and the number to meet
-abbrev Row : Type 0
-Row = ℕ × ℕ
-
-pub table : List Row
-table =
-    (differential setting (window square) sysA, 128)
-    ∷ (second setting (window square) sysA, 0)
-    ∷ (fifth setting (window square) sysA, 34)
-    ∷ (differential setting (window flat) sysA, 0)
-    ∷ (starting 200 201, 1)
-    ∷ (starting 200 200, 0)
-    ∷ (starting 1200 351, 1)
-    ∷ (starting 1200 350, 0)
-    ∷ (starting 10000 2071, 1)
-    ∷ (starting 10000 2070, 0)
+measurings : List Row
+measurings =
+    (pos (differential setting (window square) sysA), pos 128)
+    ∷ (pos (second setting (window square) sysA), pos 0)
+    ∷ (pos (fifth setting (window square) sysA), pos 34)
+    ∷ (pos (differential setting (window flat) sysA), pos 0)
+    ∷ (starting 200 201, pos 1)
+    ∷ (starting 200 200, pos 0)
+    ∷ (starting 1200 351, pos 1)
+    ∷ (starting 1200 350, pos 0)
+    ∷ (starting 10000 2071, pos 1)
+    ∷ (starting 10000 2070, pos 0)
     ∷ []
 
-pub given : List Row → List ℕ
-given [] = []
-given (r ∷ rs) = r .0 ∷ given rs
+-- ---- the table
 
-pub asked : List Row → List ℕ
-asked [] = []
-asked (r ∷ rs) = r .1 ∷ asked rs
+pub table : List Row
+table = settings ++ (matchings ++ measurings)
 
-pub table-met : given table ≡ asked table
-unfolding table given asked square flat setting end starting starts amplitude cycle weightedSum t sum nearest floor rootBy upTo window
+pub table-met : map (λ r. r .0) table ≡ map (λ r. r .1) table
+unfolding table settings matchings measurings square flat window setting starting fields factor factorHigh factorsLow valueRows seen matched operated operation starts amplitude cycle weightedSum t sum nearest floor rootBy upTo
 table-met = refl

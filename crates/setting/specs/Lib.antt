@@ -2,4 +2,3 @@ pub mod Values
 pub mod Limits
 pub mod Calls
 pub mod Search
-pub mod Numbers
