@@ -1,19 +1,25 @@
-# make test   every test: the second program's own checks, the files that it makes against those stored, the C calls against it, and then the
-#             Rattle gate, which proves each crate, tries each must-fail edit and runs each program.
+# make run    proves and builds the bench program, and runs it on a fault beyond the bank and then one inside it.
+# make test   every test: the second program's own checks, the files that it makes against those stored, the C calls and the bench program against
+#             it, and then the Rattle gate, which proves each crate, tries each must-fail edit and runs each program.
 CC = gcc
 CFLAGS = -std=c11 -O2 -Wall -Wextra -Werror
 HOST = target/staticlib/libhost.a
+BENCH = target/bin/bench
+SOURCES = crates.txt $(shell find crates -name '*.rt' -o -name '*.antt')
 SECOND = second/relay.c second/relay.h second/draw.c second/draw.h
 
-.PHONY: test second stored host gate clean
+.PHONY: run test second stored host bench gate clean
 
-test: second stored host gate
+run: $(BENCH)
+	$(BENCH) < examples/faults.blocks
+
+test: second stored host bench gate
 
 build/numbers: second/numbers.c
 	@mkdir -p build
 	$(CC) $(CFLAGS) -o $@ $<
 
-build/selftest build/vectors: build/%: second/%.c $(SECOND)
+build/selftest build/vectors build/bench: build/%: second/%.c $(SECOND)
 	@mkdir -p build
 	$(CC) $(CFLAGS) -o $@ $< second/relay.c second/draw.c -lm
 
@@ -25,25 +31,40 @@ build/host: examples/host.c include/tdp.h $(HOST)
 	@mkdir -p build
 	$(CC) $(CFLAGS) -Iinclude -o $@ $< $(HOST)
 
-$(HOST): crates.txt $(shell find crates -name '*.rt' -o -name '*.antt')
+$(HOST): $(SOURCES)
 	rt staticlib host
+
+$(BENCH): $(SOURCES)
+	rt check bench
 
 # The second program meets document 01's numbers.
 second: build/selftest
 	build/selftest
 
 # What the programs of crates/ are run on, and what they must print, is what the second program makes.
-stored: build/numbers build/vectors
+stored: build/numbers build/vectors build/bench
 	build/numbers input | cmp - crates/arithmetic/stdin
 	build/numbers expect | cmp - crates/arithmetic/stdout
 	build/vectors input | cmp - crates/vectors/stdin
 	build/vectors expect | cmp - crates/vectors/stdout
+	build/bench one input | cmp - crates/bench/stdin
+	build/bench one expect | cmp - crates/bench/stdout
+	build/bench two input | cmp - examples/faults.blocks
+	build/bench two expect | cmp - examples/faults.out
 
 # The C calls: the example, 100,000 setting blocks and 10,000 measuring calls against the second program.
 host: build/host build/blocks build/fuzz
 	build/host | cmp - examples/host.out
 	build/blocks
 	build/fuzz 10000
+
+# The bench program on the example, on nothing, on half a setting block, on a setting alone and on a last block that is one byte short.
+bench: $(BENCH)
+	$(BENCH) < examples/faults.blocks | cmp - examples/faults.out
+	test "$$($(BENCH) < /dev/null)" = "refused 1"
+	test "$$(head -c 256 examples/faults.blocks | $(BENCH))" = "refused 1"
+	test "$$(head -c 512 examples/faults.blocks | $(BENCH))" = "set state D1 D2 D3 trip"
+	test "$$(head -c 1535 examples/faults.blocks | $(BENCH) | tail -n 1)" = "refused 1"
 
 gate:
 	rt ci
