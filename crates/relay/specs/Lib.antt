@@ -1,4 +1,5 @@
 pub mod Record
 pub mod Calls
 pub mod Lists
+pub mod Example
 pub mod Stability

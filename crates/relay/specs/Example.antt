@@ -1,0 +1,62 @@
+-- A relay that trips, beside demand 3: the setting and the sets of document 01's bench run (under "Numbers to meet"), which are not those of a healthy
+-- bank, and after which system 1 alone is latched.
+use mathlib.Core.Path.{_≡_, refl}
+use mathlib.Core.Bool.{Bool, true, false}
+use mathlib.Core.List.{List, [], _∷_, _++_}
+use Prim.Native.Nat.{ℕ}
+use lib.IntN.{ℤ, pos}
+use lib.ListN.{replicate}
+use Rattle.setting.specs.declared.End.{End}
+use Rattle.setting.specs.declared.Setting.{Setting}
+use Rattle.setting.specs.Values.{startable, factor, factorHigh, factorsLow, valueRows, fields}
+use Rattle.integer.specs.Nearest.{nearest, floor}
+use Rattle.integer.specs.Root.{rootBy}
+use Rattle.integer.specs.Sum.{sum}
+use Rattle.integer.specs.Lists.{upTo}
+use Rattle.integer.specs.Tests.{eqZ}
+use Rattle.matching.specs.Matching.{operation, operated, matched}
+use Rattle.matching.specs.Sets.{System, sysA, sysB, sysC, seen, matchedAt, numbers}
+use Rattle.amplitude.specs.Amplitude.{t, weightedSum, cycle, amplitude}
+use Rattle.measuring.specs.Characteristic.{starts, hasHarmonics}
+use Rattle.measuring.specs.Measuring.{twiceRestraint, harmonics, blocked}
+use Rattle.relay.specs.Record.{elementOf, elementAfter, fresh, admissible, placed}
+use Rattle.relay.specs.Calls.{sampleRows, relayNow}
+use Rattle.relay.specs.Lists.{Call, sample, run}
+
+-- two ends of group 0 with K 65,536, no filter, no blocking, M 1, P 200, m1 30, H 8,000
+abbrev rated : End
+rated = record { voltage = 780; current = 1000; group = 0; filter = 0 }
+
+abbrev unused : End
+unused = record { voltage = 0; current = 0; group = 0; filter = 0 }
+
+pub plain : Setting
+plain =
+    record {
+      ends = 2;
+      flags = 0;
+      confirm = 1;
+      power = 1351;
+      e0 = rated;
+      e1 = rated;
+      e2 = unused;
+      e3 = unused;
+      basic = 200;
+      high = 8000;
+      slope1 = 30;
+      slope2 = 70;
+      third = 4000;
+      second = 15;
+      fifth = 30;
+    }
+
+-- twelve zero sets but for 3,000 on phase A of end 0 in the last
+pub fault : List Call
+fault = replicate 11 (sample (replicate 12 (pos 0))) ++ (sample (pos 3000 ∷ replicate 11 (pos 0)) ∷ [])
+
+pub latchAfter : System → Bool
+latchAfter l = elementOf (run (fresh plain) fault .trip) l .latch
+
+pub fault-trips : startable plain ∷ latchAfter sysA ∷ latchAfter sysB ∷ latchAfter sysC ∷ [] ≡ true ∷ true ∷ false ∷ false ∷ []
+unfolding plain fault latchAfter factor factorHigh factorsLow valueRows fields nearest floor rootBy sum upTo operation operated matched seen matchedAt numbers t weightedSum cycle amplitude twiceRestraint harmonics blocked starts hasHarmonics elementAfter fresh admissible placed sampleRows relayNow eqZ
+fault-trips = refl
