@@ -5,21 +5,22 @@ CC = gcc
 CFLAGS = -std=c11 -O2 -Wall -Wextra -Werror
 HOST = target/staticlib/libhost.a
 BENCH = target/bin/bench
+RECORDS = target/bin/records
 SOURCES = crates.txt $(shell find crates -name '*.rt' -o -name '*.antt')
 SECOND = second/relay.c second/relay.h second/draw.c second/draw.h
 
-.PHONY: run test second stored host bench gate clean
+.PHONY: run test second stored host bench records gate clean
 
 run: $(BENCH)
 	$(BENCH) < examples/faults.blocks
 
-test: second stored host bench gate
+test: second stored host bench records gate
 
 build/numbers: second/numbers.c
 	@mkdir -p build
 	$(CC) $(CFLAGS) -o $@ $<
 
-build/selftest build/vectors build/bench: build/%: second/%.c $(SECOND)
+build/selftest build/vectors build/bench build/calls: build/%: second/%.c $(SECOND)
 	@mkdir -p build
 	$(CC) $(CFLAGS) -o $@ $< second/relay.c second/draw.c -lm
 
@@ -36,6 +37,9 @@ $(HOST): $(SOURCES)
 
 $(BENCH): $(SOURCES)
 	rt check bench
+
+$(RECORDS): $(SOURCES)
+	rt check records
 
 # The second program meets document 01's numbers.
 second: build/selftest
@@ -65,6 +69,11 @@ bench: $(BENCH)
 	test "$$(head -c 256 examples/faults.blocks | $(BENCH))" = "refused 1"
 	test "$$(head -c 512 examples/faults.blocks | $(BENCH))" = "set state D1 D2 D3 trip"
 	test "$$(head -c 1535 examples/faults.blocks | $(BENCH) | tail -n 1)" = "refused 1"
+
+# 300 records of sample and reset calls against the second program: each answer, with counters, latches and refusals.
+records: $(RECORDS) build/calls
+	build/calls expect > build/calls.out
+	build/calls input | $(RECORDS) | cmp - build/calls.out
 
 gate:
 	rt ci

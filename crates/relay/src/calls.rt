@@ -27,7 +27,7 @@ use setting::Setting;
 use setting::Verdict;
 
 // Setting values that are all zero, of which no relay can be started.
-fn blank() -> Setting
+pub fn blank() -> Setting
     ensures { λ r. ⌜ r ≡ blankOf ⌝ }
 {
     let e = End {
