@@ -1,6 +1,8 @@
 # make run    proves and builds the bench program, and runs it on a fault beyond the bank and then one inside it.
 # make test   every test: the second program's own checks, the files that it makes against those stored, the C calls and the bench program against
 #             it, and then the Rattle gate, which proves each crate, tries each must-fail edit and runs each program.
+# make fuzz   a million blocks through the C calls against the second program, built with the address and undefined-behaviour sanitizers.
+# make speed  the measuring call against the second program's, at 2, 3 and 4 ends, as a ratio of times in one run.
 CC = gcc
 CFLAGS = -std=c11 -O2 -Wall -Wextra -Werror
 HOST = target/staticlib/libhost.a
@@ -9,7 +11,7 @@ RECORDS = target/bin/records
 SOURCES = crates.txt $(shell find crates -name '*.rt' -o -name '*.antt')
 SECOND = second/relay.c second/relay.h second/draw.c second/draw.h
 
-.PHONY: run test second stored host bench records gate clean
+.PHONY: run test second stored host bench records gate fuzz speed clean
 
 run: $(BENCH)
 	$(BENCH) < examples/faults.blocks
@@ -77,6 +79,21 @@ records: $(RECORDS) build/calls
 
 gate:
 	rt ci
+
+build/fuzz-checked: second/fuzz.c $(SECOND) include/tdp.h $(HOST)
+	@mkdir -p build
+	$(CC) -std=c11 -O1 -g -fsanitize=address,undefined -Iinclude -o $@ $< second/relay.c second/draw.c $(HOST) -lm
+
+build/speed: second/speed.c $(SECOND) include/tdp.h $(HOST)
+	@mkdir -p build
+	$(CC) -std=c11 -O3 -Wall -Wextra -Werror -Iinclude -o $@ $< second/relay.c second/draw.c $(HOST) -lm
+
+# Two blocks to a call.
+fuzz: build/fuzz-checked
+	build/fuzz-checked 500000
+
+speed: build/speed
+	build/speed
 
 clean:
 	rm -rf build target
