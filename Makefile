@@ -64,10 +64,11 @@ host: build/host build/blocks build/fuzz
 	build/blocks
 	build/fuzz 10000
 
-# The bench program on the example, on nothing, on half a setting block, on a setting alone and on a last block that is one byte short.
+# The bench program on the example, on nothing, on a block of zeros, on half a setting block, on a setting alone and on a last block that is one byte short.
 bench: $(BENCH)
 	$(BENCH) < examples/faults.blocks | cmp - examples/faults.out
 	test "$$($(BENCH) < /dev/null)" = "refused 1"
+	test "$$(head -c 512 /dev/zero | $(BENCH))" = "refused 3"
 	test "$$(head -c 256 examples/faults.blocks | $(BENCH))" = "refused 1"
 	test "$$(head -c 512 examples/faults.blocks | $(BENCH))" = "set state D1 D2 D3 trip"
 	test "$$(head -c 1535 examples/faults.blocks | $(BENCH) | tail -n 1)" = "refused 1"
