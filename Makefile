@@ -64,7 +64,7 @@ host: build/host build/blocks build/fuzz
 	build/blocks
 	build/fuzz 10000
 
-# The bench program on the example, on nothing, on a block of zeros, on half a setting block, on a setting alone and on a last block that is one byte short.
+# The bench program on the example, nothing, a block of zeros, half a setting block, a setting alone, and a last block that is one byte short.
 bench: $(BENCH)
 	$(BENCH) < examples/faults.blocks | cmp - examples/faults.out
 	test "$$($(BENCH) < /dev/null)" = "refused 1"
