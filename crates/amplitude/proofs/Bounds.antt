@@ -10,20 +10,22 @@ use lib.Dec.{T, leb, ltb, leb→le, ltb→lt}
 use lib.IntN.{ℤ, pos, negsuc, natAbs, _*ℤ_}
 use Rattle.integer.specs.Within.{_within_}
 use Rattle.integer.specs.Sum.{sum}
-use Rattle.integer.specs.Tests.{each, every}
+use Rattle.integer.specs.Tests.{each}
 use Rattle.integer.proofs.Reading.{ints, _⇒_}
 use Rattle.integer.proofs.Laws.{within-≤, within-*}
 use Rattle.integer.proofs.HalfUnit.{nearest-near}
 use Rattle.integer.proofs.RootLaws.{root-is, root-≤}
 use Rattle.integer.proofs.SumLaws.{sum-within, weight, weighted}
-use Rattle.integer.proofs.TestLaws.{every-at, test-each, each-get}
-use Rattle.amplitude.specs.Amplitude.{constants, t, weightedSum, cycle, square, amplitude, inOrder}
-use Rattle.amplitude.specs.Sized.{Sized}
+use Rattle.integer.proofs.TestLaws.{test-each, each-get}
+use Rattle.amplitude.specs.declared.Harmonic.{Harmonic}
+use Rattle.amplitude.specs.declared.Harmonic.the-variants.{First, Second, Fifth}
+use Rattle.amplitude.specs.Amplitude.{order, constants, t, weightedSum, cycle, square, amplitude, inOrder}
+use Rattle.amplitude.specs.Sized.{Sized, Small}
 
 -- ---- the constants
 
 -- each is within 1560: a test of the list, carried to each entry
-t-within : (k : ℕ) → t k within 1560
+pub t-within : (k : ℕ) → t k within 1560
 unfolding t
 t-within k =
     each-get
@@ -42,13 +44,13 @@ weights h from = weight 12 (constant h from)
 
 -- ---- the sums
 
--- the sum of the first n terms
-abbrev pub partial : (h from : ℕ) → (ℕ → ℤ) → ℕ → ℤ
-partial h from u n = sum n (λ k. constant h from k *ℤ u k)
+-- the sum of the first n products
+abbrev pub partial : (t u : ℕ → ℤ) → ℕ → ℤ
+partial t u n = sum n (λ k. t k *ℤ u k)
 
-pub partial-within : (h from : ℕ) {us : List ℤ} → Sized us → (n : ℕ) → n ≤ 12 → partial h from (inOrder us) n within (12 * (1560 * 3200000))
-partial-within h from {us} z n l =
-    within-≤ (sum-within (1560 * 3200000) n (λ k. constant h from k *ℤ inOrder us k) (λ k j. within-* (t-within _) (z .small k))) (omega arith)
+pub partial-within : {ts us : List ℤ} → Small ts → Sized us → (n : ℕ) → n ≤ 12 → partial (inOrder ts) (inOrder us) n within (12 * (1560 * 3200000))
+partial-within {ts} {us} s z n l =
+    within-≤ (sum-within (1560 * 3200000) n (λ k. inOrder ts k *ℤ inOrder us k) (λ k j. within-* (s .each k) (z .small k))) (omega arith)
 
 -- c or s, of a sum within w
 quotient-within : (h from w : ℕ) (u : ℕ → ℤ) → weightedSum h from u within w → cycle h from u within ((9360 + 2 * w) / 18720)
@@ -58,7 +60,13 @@ quotient-within h from w u small = nearest-near (weightedSum h from u) 9360 (ome
 -- c or s, of numbers as large as the code takes
 pub cycle-small : (h from : ℕ) {us : List ℤ} → Sized us → cycle h from (inOrder us) within 6400000
 unfolding weightedSum
-cycle-small h from {us} z = quotient-within h from (12 * (1560 * 3200000)) (inOrder us) (partial-within h from z 12 (omega arith))
+cycle-small h from {us} z =
+    quotient-within
+    h
+    from
+    (12 * (1560 * 3200000))
+    (inOrder us)
+    (sum-within (1560 * 3200000) 12 (λ k. constant h from k *ℤ inOrder us k) (λ k l. within-* (t-within _) (z .small k)))
 
 -- what c or s of numbers within b is within, by the constants' sizes
 unfoldable pub most : (h from b : ℕ) → ℕ
@@ -81,23 +89,25 @@ pub amplitude-≤ : (h : ℕ) (u : ℕ → ℤ) (c s d : ℕ) → cycle h 0 u wi
 unfolding amplitude
 amplitude-≤ h u c s d x y l = root-≤ d (root-is _) (omega (arith, square-≤ x, square-≤ y))
 
--- the amplitude of numbers as large as the code takes: one computed test for every harmonic
-largest : ℕ → Bool
-largest h = let c = most h 0 3200000 in let s = most h 9 3200000 in ltb (c * c + s * s) (6400001 * 6400001)
+-- the amplitude of numbers as large as the code takes: a computed test for each harmonic
+largest : Harmonic → Bool
+largest h = let c = most (order h) 0 3200000 in let s = most (order h) 9 3200000 in ltb (c * c + s * s) (6400001 * 6400001)
 
-largest-hold : T (every 6 largest)
+largest-holds : (h : Harmonic) → T (largest h)
 unfolding largest most weights weight t
-largest-hold = tt
+largest-holds First = tt
+largest-holds Second = tt
+largest-holds Fifth = tt
 
-pub amplitude-small : (h : ℕ) {us : List ℤ} → Sized us → h ≤ 5 → amplitude h (inOrder us) ≤ 6400000
+pub amplitude-small : (h : Harmonic) {us : List ℤ} → Sized us → amplitude (order h) (inOrder us) ≤ 6400000
 unfolding largest
-amplitude-small h {us} z five =
+amplitude-small h {us} z =
     amplitude-≤
-    h
+    (order h)
     (inOrder us)
-    (most h 0 3200000)
-    (most h 9 3200000)
+    (most (order h) 0 3200000)
+    (most (order h) 9 3200000)
     6400000
-    (cycle-within h 0 3200000 (λ k l. z .small k))
-    (cycle-within h 9 3200000 (λ k l. z .small k))
-    (ltb→lt _ _ (every-at 6 largest largest-hold h (omega arith)))
+    (cycle-within (order h) 0 3200000 (λ k l. z .small k))
+    (cycle-within (order h) 9 3200000 (λ k l. z .small k))
+    (ltb→lt _ _ (largest-holds h))

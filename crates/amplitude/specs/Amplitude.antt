@@ -7,6 +7,14 @@ use lib.ListN.{getD}
 use Rattle.integer.specs.Nearest.{nearest}
 use Rattle.integer.specs.Root.{root}
 use Rattle.integer.specs.Sum.{sum}
+use Rattle.amplitude.specs.declared.Harmonic.{Harmonic}
+use Rattle.amplitude.specs.declared.Harmonic.the-variants.{First, Second, Fifth}
+
+-- the harmonics that are measured: h = 1, 2, 5
+abbrev pub order : Harmonic → ℕ
+order First = 1
+order Second = 2
+order Fifth = 5
 
 -- the constants t0 to t11
 abbrev pub constants : List ℤ

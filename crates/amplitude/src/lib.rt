@@ -1,57 +1,148 @@
 // Amplitudes of one cycle: the sums with the twelve constants, and the root of their squares.
 
 ghost use mathlib.Core.Path.{_≡_};
-ghost use Prim.Native.Nat.{_≤_, _<_};
-ghost use Rattle.amplitude.specs.Amplitude.{weightedSum, cycle as cycleOf, amplitude as amplitudeOf, inOrder};
-ghost use Rattle.amplitude.specs.Sized.{Window, Sized};
+ghost use Prim.Native.Nat.{_≤_};
+ghost use Rattle.integer.specs.Nearest.{nearest};
+ghost use Rattle.amplitude.specs.Amplitude.{order, amplitude as amplitudeOf, inOrder};
+ghost use Rattle.amplitude.specs.Sized.{Sized, Small, row, rowSum};
 ghost use Rattle.amplitude.specs.Peak.{PeakBound};
 
-// The constants t0 to t11: 1560 times the cosine of 30 degrees a step, with 1351/780 for the root of 3.
-const T: [i32; 12] = [
-    1560,
-    1351,
-    780,
-    0,
-    -780,
-    -1351,
-    -1560,
-    -1351,
-    -780,
-    0,
-    780,
-    1351,
-];
+// The harmonics that are measured: h = 1, 2 and 5.
+pub enum Harmonic {
+    First,
+    Second,
+    Fifth,
+}
 
-// The sum of t[(h·k + from) mod 12]·u[k].
-fn weighted_sum(u: [i32; 12], h: usize, from: usize) -> i64
-    requires { ⌜ Window u h from ⌝ }
-    ensures { λ r. ⌜ r ≡ weightedSum h from (inOrder u) ⌝ }
+// The constants t[hk mod 12] for k = 0 to 11.
+fn cosines(h: Harmonic) -> [i32; 12]
+    ensures { λ r. ⌜ r ≡ row (order h) 0 ⌝ }
+{
+    match h {
+        Harmonic::First => [
+            1560,
+            1351,
+            780,
+            0,
+            -780,
+            -1351,
+            -1560,
+            -1351,
+            -780,
+            0,
+            780,
+            1351,
+        ],
+        Harmonic::Second => [
+            1560,
+            780,
+            -780,
+            -1560,
+            -780,
+            780,
+            1560,
+            780,
+            -780,
+            -1560,
+            -780,
+            780,
+        ],
+        Harmonic::Fifth => [
+            1560,
+            -1351,
+            780,
+            0,
+            -780,
+            1351,
+            -1560,
+            1351,
+            -780,
+            0,
+            780,
+            -1351,
+        ],
+    }
+}
+
+// The constants t[(hk + 9) mod 12].
+fn sines(h: Harmonic) -> [i32; 12]
+    ensures { λ r. ⌜ r ≡ row (order h) 9 ⌝ }
+{
+    match h {
+        Harmonic::First => [
+            0,
+            780,
+            1351,
+            1560,
+            1351,
+            780,
+            0,
+            -780,
+            -1351,
+            -1560,
+            -1351,
+            -780,
+        ],
+        Harmonic::Second => [
+            0,
+            1351,
+            1351,
+            0,
+            -1351,
+            -1351,
+            0,
+            1351,
+            1351,
+            0,
+            -1351,
+            -1351,
+        ],
+        Harmonic::Fifth => [
+            0,
+            780,
+            -1351,
+            1560,
+            -1351,
+            780,
+            0,
+            -780,
+            1351,
+            -1560,
+            1351,
+            -780,
+        ],
+    }
+}
+
+// The sum of weights[k]·u[k].
+fn weighted_sum(u: [i32; 12], weights: [i32; 12]) -> i64
+    requires { ⌜ Sized u × Small weights ⌝ }
+    ensures { λ r. ⌜ r ≡ rowSum weights (inOrder u) ⌝ }
 {
     let mut sum: i64 = 0;
     let mut k: usize = 0;
     while k < 12 {
-        let j = (h * k + from) % 12;
-        sum += (T[j] as i64) * (u[k] as i64);
+        sum += (weights[k] as i64) * (u[k] as i64);
         k += 1;
     }
     sum
 }
 
 // c or s: the sum divided by 9,360, to the nearest.
-fn cycle(u: [i32; 12], h: usize, from: usize) -> i64
-    requires { ⌜ Window u h from ⌝ }
-    ensures { λ r. ⌜ r ≡ cycleOf h from (inOrder u) ⌝ }
+fn cycle(u: [i32; 12], weights: [i32; 12]) -> i64
+    requires { ⌜ Sized u × Small weights ⌝ }
+    ensures { λ r. ⌜ r ≡ nearest (rowSum weights (inOrder u)) 9360 ⌝ }
 {
-    integer::nearest(weighted_sum(u, h, from), 9360)
+    integer::nearest(weighted_sum(u, weights), 9360)
 }
 
 // The amplitude of harmonic h.
-pub fn amplitude(u: [i32; 12], h: usize) -> u32
-    requires { ⌜ Sized u × (h ≤ 5) ⌝ }
-    ensures { λ r. ⌜ (r ≡ amplitudeOf h (inOrder u)) × (r ≤ 6400000) ⌝ }
+pub fn amplitude(u: [i32; 12], h: Harmonic) -> u32
+    requires { ⌜ Sized u ⌝ }
+    ensures { λ r. ⌜ (r ≡ amplitudeOf (order h) (inOrder u)) × (r ≤ 6400000) ⌝ }
 {
-    let c = cycle(u, h, 0);
-    let s = cycle(u, h, 9);
+    let c = cycle(u, cosines(h));
+    let s = cycle(u, sines(h));
     integer::root((c * c + s * s) as u64) as u32
 }
 

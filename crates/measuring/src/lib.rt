@@ -14,6 +14,7 @@ ghost use Rattle.measuring.specs.Characteristic.{starts as startsOf, has
 ghost use Rattle.measuring.specs.Measuring.{twiceRestraint, currentsOf, readingsOf};
 ghost use Rattle.measuring.specs.Sized.{Sized, Ends, Ranged, Measurable};
 ghost use Rattle.measuring.specs.Bound.{QuietBound};
+use amplitude::Harmonic;
 use setting::Setting;
 
 // The currents of a system, in thousandths of reference current: D, R (twice the restraint), the second and the fifth harmonic.
@@ -111,12 +112,12 @@ fn twice_restraint(v: Setting, win: &[i32], y: usize) -> u32
 {
     let ends = v.ends;
     if ends == 2 {
-        return amplitude::amplitude(difference(win, y), 1);
+        return amplitude::amplitude(difference(win, y), Harmonic::First);
     }
     let mut r: u32 = 0;
     let mut z: u8 = 0;
     while z < ends {
-        r += amplitude::amplitude(series(win, z as usize, y), 1);
+        r += amplitude::amplitude(series(win, z as usize, y), Harmonic::First);
         z += 1;
     }
     r
@@ -129,10 +130,10 @@ fn system_currents(v: Setting, win: &[i32], y: usize) -> Currents
 {
     let u = sums(win, v.ends, y);
     Currents {
-        d: amplitude::amplitude(u, 1),
+        d: amplitude::amplitude(u, Harmonic::First),
         r: twice_restraint(v, win, y),
-        h2: amplitude::amplitude(u, 2),
-        h5: amplitude::amplitude(u, 5),
+        h2: amplitude::amplitude(u, Harmonic::Second),
+        h5: amplitude::amplitude(u, Harmonic::Fifth),
     }
 }
 

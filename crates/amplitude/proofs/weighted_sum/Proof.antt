@@ -3,7 +3,6 @@
 use borrow.Author.Needs.{needs}
 use mathlib.Core.Path.{_≡_, refl}
 use Prim.Native.Nat.{_*_, _-_, _^_, _≤_}
-use native.Mathlib.Nat.{mul-le-mul}
 use native.Mathlib.Omega.{arith}
 use lib.IntN.{ℤ, _+ℤ_, _*ℤ_}
 use mir.Syntax.{w32, w64}
@@ -15,7 +14,8 @@ use Rattle.integer.proofs.Reading.{ints, arithℤ}
 use Rattle.integer.proofs.Laws.{within-*, within-+}
 use Rattle.integer.proofs.Machine.{fits, back, back-within}
 use Rattle.integer.proofs.SumLaws.{sum-next}
-use Rattle.amplitude.specs.Amplitude.{t, weightedSum, inOrder}
+use Rattle.amplitude.specs.Amplitude.{inOrder}
+use Rattle.amplitude.specs.Sized.{rowSum}
 use Rattle.amplitude.proofs.Bounds.{partial, partial-within}
 use Rattle.amplitude.proofs.weighted_sum.Statement.{statement}
 use Rattle.amplitude.proofs.weighted_sum.Tie as tie
@@ -31,20 +31,14 @@ sum-fits : {x y z : ℤ} → z within (12 * (1560 * 3200000)) → SFits w32 x �
 sum-fits l h k = fits (within-+ l (within-* (small h) (small k))) w64 refl
 
 abbrev Inv-loop : tie.InvT-loop
-Inv-loop h from u sum₀ k₀ sum k = (k ≤ 12) × (sum ≡ ofZ w64 (partial h from (inOrder u) k))
+Inv-loop u weights sum₀ k₀ sum k = (k ≤ 12) × (sum ≡ ofZ w64 (partial (inOrder weights) (inOrder u) k))
 
 abbrev μ-loop : tie.MeasureT-loop
-μ-loop h from u sum₀ k₀ sum k = 12 - k
+μ-loop u weights sum₀ k₀ sum k = 12 - k
 
 loop-holds : tie.Need-loop-holds Inv-loop μ-loop
 unfolding S.sum
 loop-holds c = (omega arith, refl)
-
-mul-j : tie.Need-mul-j Inv-loop μ-loop
-mul-j c = omega (arith, mul-le-mul (c .before .before .pre .harmonic) (c .before .loop .inv .0))
-
-add-j : tie.Need-add-j Inv-loop μ-loop
-add-j c = omega (arith, mul-le-mul (c .before .before .pre .harmonic) (c .before .loop .inv .0))
 
 mul-sum : tie.Need-mul-sum Inv-loop μ-loop
 mul-sum c = omega arith
@@ -68,8 +62,8 @@ mul-sum-3 : tie.Need-mul-sum-3 Inv-loop μ-loop
 mul-sum-3 c = rw (back (cast-sum (c .before)), back (cast-sum-2 c)) (search (needs, product-fits))
 
 -- the sum so far
-so-far : (c : tie.At-loop Inv-loop μ-loop) → partial (c .before .args .h) (c .before .args .from) (inOrder (c .before .args .t1)) (c .loop .k) within (12 * (1560 * 3200000))
-so-far c = partial-within (c .before .args .h) (c .before .args .from) (c .before .pre .sized) (c .loop .k) (c .loop .inv .0)
+so-far : (c : tie.At-loop Inv-loop μ-loop) → partial (inOrder (c .before .args .t2)) (inOrder (c .before .args .t1)) (c .loop .k) within (12 * (1560 * 3200000))
+so-far c = partial-within (c .before .pre .1) (c .before .pre .0) (c .loop .k) (c .loop .inv .0)
 
 add-sum : tie.Need-add-sum Inv-loop μ-loop
 add-sum c =
@@ -84,7 +78,6 @@ loop-less : tie.Need-loop-less Inv-loop μ-loop
 loop-less c = omega arith
 
 loop-again : tie.Need-loop-again Inv-loop μ-loop
-unfolding t
 loop-again c =
     let at = c .before .before .before in (
       omega arith,
@@ -93,7 +86,7 @@ loop-again c =
     )
 
 returns : tie.Need-returns Inv-loop μ-loop
-unfolding weightedSum
+unfolding rowSum
 returns c =
     let all : c .before .loop .k ≡ 12 = omega arith in
     rw (c .before .loop .inv .1, back-within (so-far (c .before)) w64 refl, all)
@@ -105,8 +98,6 @@ weighted-sum-spec =
     Inv-loop
     μ-loop
     loop-holds
-    mul-j
-    add-j
     mul-sum
     array-copy-out-sum
     cast-sum

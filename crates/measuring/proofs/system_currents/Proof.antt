@@ -1,7 +1,6 @@
 -- `measuring::system_currents` meets its contract: the sums are of a size that the amplitudes take, and their amplitudes are those of the definitions.
 use borrow.Author.Needs.{needs}
 use mathlib.Core.Path.{_∙_}
-use native.Mathlib.Omega.{arith}
 use Rattle.matching.specs.Sets.{system}
 use Rattle.amplitude.specs.Sized as A
 use Rattle.measuring.specs.Measuring.{currentsOf}
@@ -17,16 +16,16 @@ u-sized : (c : tie.After-sums) → A.Sized (c .sums .result)
 u-sized c = let start = c .before in sized _ (c .sums .ensures) (sums-small (start .pre .0 .sized) _ (start .pre .0 .ends .four) (system (start .args .y)))
 
 amplitude-requires : tie.Need-amplitude-requires
-amplitude-requires c κs = (u-sized c, omega arith)
+amplitude-requires c κs = u-sized c
 
 twice-restraint-requires : tie.Need-twice-restraint-requires
 twice-restraint-requires c κs = search needs
 
 amplitude-requires-2 : tie.Need-amplitude-requires-2
-amplitude-requires-2 c κs = (u-sized (c .before .before), omega arith)
+amplitude-requires-2 c κs = u-sized (c .before .before)
 
 amplitude-requires-3 : tie.Need-amplitude-requires-3
-amplitude-requires-3 c κs = (u-sized (c .before .before .before), omega arith)
+amplitude-requires-3 c κs = u-sized (c .before .before .before)
 
 returns : tie.Need-returns
 unfolding currentsOf

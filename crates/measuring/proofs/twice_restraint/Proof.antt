@@ -27,7 +27,7 @@ difference-requires : tie.Need-difference-requires Inv-loop μ-loop
 difference-requires c κs = search needs
 
 amplitude-requires : tie.Need-amplitude-requires Inv-loop μ-loop
-amplitude-requires c κs = (sized _ (c .difference .ensures) (difference-small (c .before .before .pre .0 .sized) (system (c .before .before .args .y))), omega arith)
+amplitude-requires c κs = sized _ (c .difference .ensures) (difference-small (c .before .before .pre .0 .sized) (system (c .before .before .args .y)))
 
 returns : tie.Need-returns Inv-loop μ-loop
 unfolding twiceRestraint
@@ -46,7 +46,7 @@ series-requires : tie.Need-series-requires Inv-loop μ-loop
 series-requires c κs = search needs
 
 amplitude-requires-2 : tie.Need-amplitude-requires-2 Inv-loop μ-loop
-amplitude-requires-2 c κs = (sized _ (c .series .ensures) (series-small (c .before .before .before .before .pre .0 .sized) _ (system (c .before .before .before .before .args .y))), omega arith)
+amplitude-requires-2 c κs = sized _ (c .series .ensures) (series-small (c .before .before .before .before .pre .0 .sized) _ (system (c .before .before .before .before .args .y)))
 
 add-r : tie.Need-add-r Inv-loop μ-loop
 add-r c = search needs

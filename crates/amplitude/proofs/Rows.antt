@@ -1,0 +1,25 @@
+-- The rows of constants: each is within 1,560, and the sum of their products is the one of the definition.
+use mathlib.Core.Path.{_≡_, refl}
+use Prim.Native.Nat.{ℕ}
+use native.Mathlib.Omega.{arith}
+use lib.IntN.{ℤ}
+use Rattle.integer.specs.Within.{_within_}
+use Rattle.integer.specs.Sum.{sum}
+use Rattle.integer.specs.Lists.{upTo}
+use Rattle.integer.specs.Tests.{Each, none, _&_}
+use Rattle.integer.proofs.TestLaws.{each-get}
+use Rattle.amplitude.specs.Amplitude.{weightedSum}
+use Rattle.amplitude.specs.Sized.{row, rowSum, Small}
+use Rattle.amplitude.proofs.Bounds.{t-within}
+
+row-within : (h from : ℕ) → Each (λ x. x within 1560) (row h from)
+unfolding row upTo
+row-within h from =
+    t-within _ & t-within _ & t-within _ & t-within _ & t-within _ & t-within _ & t-within _ & t-within _ & t-within _ & t-within _ & t-within _ & t-within _ & none
+
+pub row-small : (h from : ℕ) → Small (row h from)
+row-small h from = record { each = each-get (row-within h from) (record { size = omega arith }) }
+
+pub row-sum : (h from : ℕ) (u : ℕ → ℤ) → rowSum (row h from) u ≡ weightedSum h from u
+unfolding rowSum row weightedSum sum upTo
+row-sum h from u = refl
