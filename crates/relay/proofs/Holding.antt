@@ -122,7 +122,7 @@ counter-≤ M true c = by (ltb c M) refl
     by true e = omega (arith, ltb-true c M e)
     by false e = omega arith
 
-element-≤ : (M : ℕ) (b : Bool) (e : Element) → elementAfter M b e .count ≤ M
+pub element-≤ : (M : ℕ) (b : Bool) (e : Element) → elementAfter M b e .count ≤ M
 unfolding elementAfter
 element-≤ M b e = counter-≤ M b (e .count)
 

@@ -11,4 +11,5 @@ pub mod Placed
 pub mod Below
 pub mod Settled
 pub mod Ready
+pub mod Kept
 mod Rows

@@ -21,14 +21,17 @@ pub each-sized : (l : List ℤ) → T (each within800000 l) → Each (λ x. x wi
 each-sized l t = test-each within800000 (λ x s. record { size = leb→le (natAbs x) 800000 s }) l t
 
 -- each number of the window after a set
-pub placed-each : (w : Window) (ns : List ℤ) → Each (λ x. x within 800000) (w .values) → Each (λ x. x within 800000) ns →
-    (k : ℕ) → getD (placed w ns .values) k (pos 0) within 800000
-unfolding placed
-placed-each w ns old new = each-get (by (ltb (w .fill) 12)) (simp ints (omega arith))
-  where
-    by : (b : Bool) → Each (λ x. x within 800000) (cond b (afterHeld w ns) (atEnd w ns) .values)
-    by true = each-append (each-take old (12 * w .fill)) (each-append new (each-drop old (12 * w .fill + 12)))
-    by false = each-append (each-drop old 12) new
+module _ (w : Window) (ns : List ℤ) (old : Each (λ x. x within 800000) (w .values)) (new : Each (λ x. x within 800000) ns) where
+  pub placed-sized : Each (λ x. x within 800000) (placed w ns .values)
+  unfolding placed
+  placed-sized = by (ltb (w .fill) 12)
+    where
+      by : (b : Bool) → Each (λ x. x within 800000) (cond b (afterHeld w ns) (atEnd w ns) .values)
+      by true = each-append (each-take old (12 * w .fill)) (each-append new (each-drop old (12 * w .fill + 12)))
+      by false = each-append (each-drop old 12) new
+
+  pub placed-each : (k : ℕ) → getD (placed w ns .values) k (pos 0) within 800000
+  placed-each = each-get placed-sized (simp ints (omega arith))
 
 -- at most twelve are held
 pub placed-fill : (w : Window) (ns : List ℤ) → placed w ns .fill ≤ 12

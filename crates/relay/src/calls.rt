@@ -4,9 +4,10 @@ ghost use mathlib.Core.Path.{_≡_};
 ghost use mathlib.Core.Bool.{true, false};
 ghost use Prim.Native.Nat.{_≤_};
 ghost use Rattle.block.specs.Refusals.{gives, declines, numberOf};
+ghost use Rattle.setting.specs.Limits.{fourFactors};
 ghost use Rattle.measuring.specs.Characteristic.{counts as countsOf};
 ghost use Rattle.measuring.specs.Sized.{Measurable};
-ghost use Rattle.relay.specs.Record.{elementAfter, fresh};
+ghost use Rattle.relay.specs.Record.{elementAfter, admissible};
 ghost use Rattle.relay.specs.Calls.{blank as blankOf, full, replyNow, relayNow, replyOf, Samples, Resets, Starts};
 use crate::Answer;
 use crate::Element;
@@ -149,6 +150,29 @@ fn refused(r: Relay, why: Refusal) -> Sampled
     }
 }
 
+// What the sample call does with a record that is admissible, given its factors: for a caller that holds such a record and gives it set after set.
+pub fn sample_admitted(r: Relay, factors: [i64; 4], set: &[i16]) -> Sampled
+    requires { ⌜ (admissible r ≡ true) × (factors ≡ fourFactors (r .setting)) ⌝ }
+    ensures { λ s. ⌜ Samples r (now (set .entry)) s ⌝ }
+{
+    if set.len() != 12 {
+        return refused(r, Refusal::Count);
+    }
+    if !sets::in_reach(set) {
+        return refused(r, Refusal::Reach);
+    }
+    let v = r.setting;
+    if !sets::unused_zero(v.ends, set) {
+        return refused(r, Refusal::Unused);
+    }
+    let old = r.window;
+    let w = records::place(old, matching::numbers(v, factors, set));
+    if w.fill < 12 {
+        return filling(r, w);
+    }
+    measured(r, w)
+}
+
 impl Relay {
     // A fresh relay on setting values, or the refusal, 4 to 7, beside a blank record.
     pub fn start(v: Setting) -> Started
@@ -174,22 +198,8 @@ impl Relay {
         if !records::admissible(self) {
             return refused(self, Refusal::Record);
         }
-        if set.len() != 12 {
-            return refused(self, Refusal::Count);
-        }
-        if !sets::in_reach(set) {
-            return refused(self, Refusal::Reach);
-        }
         let v = self.setting;
-        if !sets::unused_zero(v.ends, set) {
-            return refused(self, Refusal::Unused);
-        }
-        let old = self.window;
-        let w = records::place(old, matching::numbers(v, setting::factors::factors(v), set));
-        if w.fill < 12 {
-            return filling(self, w);
-        }
-        measured(self, w)
+        sample_admitted(self, setting::factors::factors(v), set)
     }
 
     // Clears counters and latches, and not the window: 12.

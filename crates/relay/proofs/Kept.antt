@@ -1,0 +1,54 @@
+-- A sample call keeps a record admissible, and its setting.
+use mathlib.Core.Path.{_≡_, refl, ap, _∙_}
+use mathlib.Core.Bool.{Bool, true, false, cond}
+use mathlib.Core.List.{List}
+use lib.Dec.{T, leb, le→leb}
+use lib.IntN.{ℤ, natAbs}
+use Rattle.integer.specs.Tests.{hold, none, _&_}
+use Rattle.integer.proofs.TestLaws.{hold-at, hold-of, is-true, each-test}
+use Rattle.matching.specs.Sets.{System, sysA, sysB, sysC, numbers}
+use Rattle.relay.specs.declared.Relay.{Relay}
+use Rattle.relay.specs.Record.{elementOf, perSystem, within800000, windowWithin, countersWithin, admissible}
+use Rattle.relay.specs.Calls.{accepted, windowAfter, elementNow, relayNow, sampleRelay}
+use Rattle.relay.proofs.Admission.{admitted-is}
+use Rattle.relay.proofs.Below.{matched-bound}
+use Rattle.relay.proofs.Cases.{sample-leaves}
+use Rattle.relay.proofs.Holding.{element-≤, reach, sized-of}
+use Rattle.relay.proofs.Placed.{each-sized, placed-sized, placed-fill}
+
+is-T : {b : Bool} → b ≡ true → T b
+is-T e = rw e tt
+
+module _ (r : Relay) (xs : List ℤ) (a : admissible r ≡ true) where
+  -- the record with an accepted set filed
+  now-admissible : T (accepted (r .setting) xs) → admissible (relayNow r (windowAfter r xs)) ≡ true
+  unfolding admissible relayNow
+  now-admissible t =
+      let v = r .setting in
+      let h = admitted-is r a in
+      let w = windowAfter r xs in
+      let old = each-sized (r .window .values) (hold-at (windowWithin (r .window)) (is-T (h .within)) 1) in
+      let new = sized-of matched-bound v (is-T (h .sound)) xs (reach v xs t) in
+      let small = each-test within800000 (λ x k. le→leb (natAbs x) 800000 (k .size)) (placed-sized (r .window) (numbers v xs) old new) in
+      let few = le→leb (w .fill) 12 (placed-fill (r .window) (numbers v xs)) in
+      let count : (l : System) → T (leb (elementNow r w l .count) (v .confirm)) = λ l. le→leb _ _ (element-≤ (v .confirm) _ (elementOf (r .trip) l)) in
+      let win : hold (windowWithin w) ≡ true = is-true (hold-of {bs = windowWithin w} (few & small & none)) in
+      let counted : hold (countersWithin (v .confirm) (perSystem (elementNow r w))) ≡ true =
+      is-true (hold-of {bs = countersWithin (v .confirm) (perSystem (elementNow r w))} (count sysA & count sysB & count sysC & none)) in
+      rw (h .sound, win, counted)
+
+  by : (b : Bool) → (T b → T (accepted (r .setting) xs)) → admissible (cond b (relayNow r (windowAfter r xs)) r) ≡ true
+  by true t = now-admissible (t tt)
+  by false t = a
+
+  pub kept : admissible (sampleRelay r xs) ≡ true
+  kept = ap admissible (sample-leaves (r .setting) r xs a refl r (relayNow r (windowAfter r xs))) ∙ by (accepted (r .setting) xs) (λ t. t)
+
+  same-by : (b : Bool) → cond b (relayNow r (windowAfter r xs)) r .setting ≡ r .setting
+  unfolding relayNow
+  same-by true = refl
+  same-by false = refl
+
+  pub setting-kept : sampleRelay r xs .setting ≡ r .setting
+  setting-kept =
+      ap (λ (s : Relay). s .setting) (sample-leaves (r .setting) r xs a refl r (relayNow r (windowAfter r xs))) ∙ same-by (accepted (r .setting) xs)
