@@ -1,13 +1,14 @@
 -- The layout, both ways. Bytes with the mark and zero bytes are the header of the values that they hold, and then zeros: each number's bytes are those it was read from.
 -- The values that a header holds are those it was made of: each number fits its bytes.
-use mathlib.Core.Path.{_≡_, refl, sym, ap, ap₂, _∙_}
+use mathlib.Core.Path.{_≡_, refl, sym, ap, _∙_}
 use mathlib.Core.Bool.{Bool, true, false, not, _&&_}
 use mathlib.Core.List.{List, [], _∷_, _++_, map}
 use Prim.Native.Nat.{ℕ, zero, suc, _+_, _<_, _≤_}
+use native.Mathlib.Nat.{zero-add, add-zero, suc-add, add-assoc}
 use native.Mathlib.Omega.{arith}
 use lib.Dec.{T, eqb, ltb, eqb→eq, ltb→lt, nltb→le}
-use lib.ListN.{length, getD, take, drop, replicate, length-drop, length-replicate, getD-replicate, List·getD-append}
-use lib.Seq.{take-add, getD-append-add, getD-drop}
+use lib.ListN.{length, getD, take, replicate, length-replicate, getD-replicate, List·getD-append}
+use lib.Seq.{getD-append-add}
 use borrow.Author.Tests.{eq-eqb}
 use Rattle.integer.specs.Lists.{upTo}
 use Rattle.integer.specs.Tests.{each, Each, none, _&_}
@@ -49,46 +50,48 @@ unfolding upTo
 upTo-zeros zero = refl
 upTo-zeros (suc n) = ap (λ (t : List ℕ). 0 ∷ t) (upTo-zeros n)
 
--- a run of zeros after the start of a list
-run : (s : List ℕ) (m n : ℕ) → m + n ≤ length s → ((k : ℕ) → k < n → Zero s (m + k)) → take (m + n) s ≡ take m s ++ replicate n 0
-run s m n l z =
-    take-add m n s ∙
-    ap (λ (t : List ℕ). take m s ++ t)
-    (take-upTo n (drop m s) 0 (simp length-drop (omega arith)) ∙ upTo-same n _ _ (λ k h. getD-drop m s k 0 ∙ z k h) ∙ upTo-zeros n)
+-- the first n, and then m more
+upTo-add : (n m : ℕ) (f : ℕ → ℕ) → upTo (n + m) f ≡ upTo n f ++ upTo m (λ k. f (n + k))
+unfolding upTo
+upTo-add zero m f = simp zero-add
+upTo-add (suc n) m f = simp suc-add (ap (λ (t : List ℕ). f 0 ∷ t) (upTo-add n m (λ k. f (suc k))))
 
--- the bytes from a place on
-abbrev two : List ℕ → ℕ → List ℕ
-two s at = getD s at 0 ∷ getD s (at + 1) 0 ∷ []
-
-abbrev four : List ℕ → ℕ → List ℕ
-four s at = getD s at 0 ∷ getD s (at + 1) 0 ∷ getD s (at + 2) 0 ∷ getD s (at + 3) 0 ∷ []
+-- p is the n bytes of s from a place on
+record Part (s : List ℕ) (at n : ℕ) (p : List ℕ) : Type 0 where
+  is : p ≡ upTo n (λ k. getD s (at + k) 0)
 
 infixl 65 _beside_
-_beside_ : {a b c d : List ℕ} → a ≡ b → c ≡ d → a ++ c ≡ b ++ d
-_beside_ = ap₂ (λ (x y : List ℕ). x ++ y)
+_beside_ : {s p q : List ℕ} {at n m : ℕ} → Part s at n p → Part s (at + n) m q → Part s at (n + m) (p ++ q)
+_beside_ {s} {at = at} {n = n} {m = m} a b =
+    record { is = rw (a .is, b .is, upTo-add n m (λ k. getD s (at + k) 0)) (simp add-assoc) }
 
 -- bytes 0 to 7
-mark-is : (s : List ℕ) → T (marked s) → Zero s 7 → (0x54 ∷ 0x44 ∷ 0x50 ∷ 0x31 ∷ getD s 4 0 ∷ getD s 5 0 ∷ getD s 6 0 ∷ 0 ∷ []) ≡ four s 0 ++ four s 4
+mark-is : (s : List ℕ) → T (marked s) → Zero s 7 → Part s 0 8 (0x54 ∷ 0x44 ∷ 0x50 ∷ 0x31 ∷ getD s 4 0 ∷ getD s 5 0 ∷ getD s 6 0 ∷ 0 ∷ [])
+unfolding upTo
 mark-is s h z =
     let p = split (eqb (getD s 0 0) 0x54) _ h in
     let q = split (eqb (getD s 1 0) 0x44) _ (p .1) in
     let r = split (eqb (getD s 2 0) 0x50) (eqb (getD s 3 0) 0x31) (q .1) in
-    rw (eqb→eq (getD s 0 0) 0x54 (p .0), eqb→eq (getD s 1 0) 0x44 (q .0), eqb→eq (getD s 2 0) 0x50 (r .0), eqb→eq (getD s 3 0) 0x31 (r .1), z)
+    record { is = rw (eqb→eq (getD s 0 0) 0x54 (p .0), eqb→eq (getD s 1 0) 0x44 (q .0), eqb→eq (getD s 2 0) 0x50 (r .0), eqb→eq (getD s 3 0) 0x31 (r .1), z) }
 
 module _ (s : List ℕ) (byte : (k : ℕ) → getD s k 0 < 256) where
-  two-is : (at : ℕ) → bytes16 (u16At s at) ≡ two s at
-  two-is at = bytes-u16 s at (byte at) (byte (at + 1))
+  two-is : (at : ℕ) → Part s at 2 (bytes16 (u16At s at))
+  unfolding upTo
+  two-is at = record { is = bytes-u16 s at (byte at) (byte (at + 1)) ∙ rw (add-zero at) }
 
-  four-is : (at : ℕ) → bytes32 (u32At s at) ≡ four s at
-  four-is at = bytes-u32 s at (byte at) (byte (at + 1)) (byte (at + 2)) (byte (at + 3))
+  four-is : (at : ℕ) → Part s at 4 (bytes32 (u32At s at))
+  unfolding upTo
+  four-is at = record { is = bytes-u32 s at (byte at) (byte (at + 1)) (byte (at + 2)) (byte (at + 3)) ∙ rw (add-zero at) }
 
-  end-is : (at : ℕ) → Zero s (at + 10) → Zero s (at + 11)
-      → endBytes (endAt s at) ≡ four s at ++ four s (at + 4) ++ (getD s (at + 8) 0 ∷ getD s (at + 9) 0 ∷ getD s (at + 10) 0 ∷ getD s (at + 11) 0 ∷ [])
-  end-is at y z = four-is at beside four-is (at + 4) beside rw (y, z)
+  end-is : (at : ℕ) → Zero s (at + 10) → Zero s (at + 11) → Part s at 12 (endBytes (endAt s at))
+  unfolding upTo
+  end-is at y z =
+      let last : Part s (at + 8) 4 (getD s (at + 8) 0 ∷ getD s (at + 9) 0 ∷ 0 ∷ 0 ∷ []) = record { is = simp (add-assoc, y, z) } in
+      four-is at beside four-is (at + 4) beside last
 
   -- bytes 0 to 73
-  header-is : T (marked s) → Each (Zero s) spareOffsets → header (settingAt s) ≡ upTo 74 (λ k. getD s k 0)
-  unfolding header settingAt upTo
+  header-is : T (marked s) → Each (Zero s) spareOffsets → Part s 0 74 (header (settingAt s))
+  unfolding header settingAt
   header-is m (z7 & z22 & z23 & z34 & z35 & z46 & z47 & z58 & z59 & rest) =
       mark-is s m z7
       beside four-is 8
@@ -104,13 +107,17 @@ module _ (s : List ℕ) (byte : (k : ℕ) → getD s k 0 < 256) where
       beside two-is 70
       beside two-is 72
 
+  -- bytes 74 to 509
   tail-zero : Each (Zero s) spareOffsets → (k : ℕ) → k < 436 → Zero s (74 + k)
   tail-zero (z7 & rest) k h = rw (getD-upTo 436 (λ k. 74 + k) k 7 h) at (each-get (each-drop rest 8) {d = 7} z7 k)
 
+  tail-is : Each (Zero s) spareOffsets → Part s 74 436 (replicate 436 0)
+  tail-is z = record { is = sym (upTo-same 436 _ _ (tail-zero z) ∙ upTo-zeros 436) }
+
   pub body-is : 510 ≤ length s → T (marked s) → Each (Zero s) spareOffsets → header (settingAt s) ++ replicate 436 0 ≡ take 510 s
   body-is l m z =
-      ap (λ (t : List ℕ). t ++ replicate 436 0) (header-is m z ∙ sym (take-upTo 74 s 0 (omega arith))) ∙
-      sym (run s 74 436 l (tail-zero z))
+      let all : Part s 0 510 (header (settingAt s) ++ replicate 436 0) = header-is m z beside tail-is z in
+      all .is ∙ simp zero-add (sym (take-upTo 510 s 0 l))
 
 -- ---- from values to bytes and back
 

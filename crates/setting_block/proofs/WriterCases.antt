@@ -1,30 +1,43 @@
 -- What the writer gives in each of its cases, and the block that it makes.
 use mathlib.Core.Path.{_≡_, refl, sym, ap, _∙_}
-use mathlib.Core.List.{List, [], _∷_, _++_}
+use mathlib.Core.List.{List, [], _∷_, _++_, append-assoc}
 use Prim.Native.Nat.{ℕ, _+_, _<_, _≤_}
 use native.Mathlib.Omega.{arith}
 use lib.Dec.{ltb}
-use lib.ListN.{length, take, drop}
-use lib.Seq.{take-all, take-append-add}
+use lib.ListN.{length, take, drop, replicate, length-append}
+use lib.Seq.{length-take-le, take-at, take-append-add, drop-append-add, drop-drop}
 use borrow.Author.Tests.{lt-ltb, le-ltb}
 use Rattle.integer.specs.Tests.{Each, none}
 use Rattle.block.specs.declared.Refusal.{Refusal}
 use Rattle.block.specs.declared.Written.{Written}
 use Rattle.block.specs.declared.Written.the-variants.{Done, Refused}
 use Rattle.block.specs.Refusals.{numberOf, Row, Outcome, declines, _when_, firstRefusal, writtenOf, offsetsOf, writtenOffsets}
-use Rattle.block.specs.Block.{placed}
+use Rattle.block.specs.Block.{sealed, placed}
 use Rattle.setting.specs.declared.Setting.{Setting}
 use Rattle.setting.specs.declared.Verdict.{Verdict}
 use Rattle.setting.specs.declared.Verdict.the-variants.{Sound, Unsound}
 use Rattle.setting.specs.Values.{fields, startRows}
 use Rattle.setting.specs.Calls.{Wrong, verdictOutcome, Judges}
-use Rattle.setting_block.specs.Layout.{blockOf}
+use Rattle.setting_block.specs.Layout.{Laid, header, blockOf}
 use Rattle.setting_block.specs.Calls.{writeRows, Writes}
 use Rattle.setting_block.proofs.Rows.{byOutcome, firstOf-++, leaves-is}
 
--- the start of a list d over whose first n elements h is copied
-pub copied-start : (h d : List ℕ) (n m : ℕ) → length h ≡ n → take (n + m) (take n h ++ drop n d) ≡ h ++ take m (drop n d)
-copied-start h d n m l = rw (take-all n h (omega arith)) (rw l at (take-append-add h (drop n d) m))
+-- two pieces, put one after the other, are one
+infixl 65 _then_
+pub _then_ : {b p q b₁ r : List ℕ} {at : ℕ} → Laid b at p b₁ → Laid b₁ (at + length p) q r → Laid b at (p ++ q) r
+_then_ {b} {p} {q} {at = at} k l =
+    let n : ℕ = at + length p in
+    let start : List ℕ = take at b ++ p in
+    let s : length start ≡ n = length-append (take at b) p ∙ rw (length-take-le at b (k .place)) in
+    let past : drop (n + length q) (start ++ drop n b) ≡ drop (n + length q) b = rw s at (drop-append-add start (drop n b) (length q)) ∙ drop-drop (length q) n b in
+    let e : at + length (p ++ q) ≡ n + length q = omega (arith, length-append p q) in
+    let joined : start ++ q ≡ take at b ++ (p ++ q) = append-assoc (take at b) p q in
+    record { place = k .place; bytes = l .bytes ∙ rw (k .bytes, take-at start (drop n b) n s, past, e, joined) }
+
+-- a block of zeros with the header put at its start: of the 510 bytes that are sealed, 436 are the zeros after the header
+pub header-sealed : (v : Setting) {b : List ℕ} → Laid (replicate 512 0) 0 (header v) b → sealed (take 510 b) ≡ blockOf v
+unfolding header blockOf
+header-sealed v l = ap (λ (z : List ℕ). sealed (take 510 z)) (l .bytes) ∙ ap sealed (take-append-add (header v) (drop 74 (replicate 512 0)) 436)
 
 module _ (v : Setting) (buffer : List ℕ) where
   -- the last row of the writer's

@@ -1,9 +1,10 @@
 -- The setting block's 512 bytes (document 01, "The setting block").
+use mathlib.Core.Path.{_≡_}
 use mathlib.Core.Bool.{Bool, _&&_}
 use mathlib.Core.List.{List, [], _∷_, _++_, map}
-use Prim.Native.Nat.{ℕ, _+_, _*_}
+use Prim.Native.Nat.{ℕ, _+_, _*_, _≤_}
 use lib.Dec.{eqb}
-use lib.ListN.{getD, replicate}
+use lib.ListN.{length, getD, take, drop, replicate}
 use Rattle.integer.specs.Lists.{upTo}
 use Rattle.block.specs.Bytes.{u16At, u32At, bytes16, bytes32}
 use Rattle.block.specs.Block.{sealed}
@@ -56,6 +57,11 @@ unfoldable pub spares : List ℕ → List FieldRule
 spares s = map (spare s) spareOffsets
 
 -- ---- the block of setting values
+
+-- a list before and after a piece is put at a place in it
+pub record Laid (before : List ℕ) (at : ℕ) (piece after : List ℕ) : Type 0 where
+  pub place : at ≤ length before
+  pub bytes : after ≡ take at before ++ piece ++ drop (at + length piece) before
 
 abbrev pub endBytes : End → List ℕ
 endBytes e = bytes32 (e .voltage) ++ bytes32 (e .current) ++ (e .group ∷ e .filter ∷ 0 ∷ 0 ∷ [])

@@ -1,109 +1,76 @@
 // The setting block, written; and that reading and writing undo each other.
 
 ghost use mathlib.Core.Path.{_≡_};
-ghost use Rattle.setting_block.specs.Layout.{header as headerOf, blockOf};
+ghost use Prim.Native.Nat.{_+_, _≤_};
+ghost use lib.ListN.{length};
+ghost use Rattle.block.specs.Bytes.{bytes16, bytes32};
+ghost use Rattle.setting_block.specs.Layout.{Laid, endBytes, blockOf};
 ghost use Rattle.setting_block.specs.Calls.{Writes};
 ghost use Rattle.setting_block.specs.RoundTrip.{ReadThenWrite, WriteThenRead};
 use block::Refusal;
 use block::Written;
+use setting::End;
 use setting::Setting;
 use setting::Verdict;
 use setting::judging;
 
-// Bytes 0 to 73 of a block.
-fn header(v: Setting) -> [u8; 74]
-    ensures { λ r. ⌜ r ≡ headerOf v ⌝ }
+// A block with some bytes put at a place; with a number of two bytes, of four, with an end.
+fn put(b: [u8; 512], at: usize, piece: &[u8]) -> [u8; 512]
+    requires { ⌜ at + length (now piece) ≤ 512 ⌝ }
+    ensures { λ r. ⌜ Laid b at (now (piece .entry)) r ⌝ }
 {
-    [
-        0x54,
-        0x44,
-        0x50,
-        0x31,
-        v.ends,
-        v.flags,
-        v.confirm,
-        0,
-        (v.power % 256) as u8,
-        (v.power / 256 % 256) as u8,
-        (v.power / 65536 % 256) as u8,
-        (v.power / 16777216 % 256) as u8,
-        (v.e0.voltage % 256) as u8,
-        (v.e0.voltage / 256 % 256) as u8,
-        (v.e0.voltage / 65536 % 256) as u8,
-        (v.e0.voltage / 16777216 % 256) as u8,
-        (v.e0.current % 256) as u8,
-        (v.e0.current / 256 % 256) as u8,
-        (v.e0.current / 65536 % 256) as u8,
-        (v.e0.current / 16777216 % 256) as u8,
-        v.e0.group,
-        v.e0.filter,
-        0,
-        0,
-        (v.e1.voltage % 256) as u8,
-        (v.e1.voltage / 256 % 256) as u8,
-        (v.e1.voltage / 65536 % 256) as u8,
-        (v.e1.voltage / 16777216 % 256) as u8,
-        (v.e1.current % 256) as u8,
-        (v.e1.current / 256 % 256) as u8,
-        (v.e1.current / 65536 % 256) as u8,
-        (v.e1.current / 16777216 % 256) as u8,
-        v.e1.group,
-        v.e1.filter,
-        0,
-        0,
-        (v.e2.voltage % 256) as u8,
-        (v.e2.voltage / 256 % 256) as u8,
-        (v.e2.voltage / 65536 % 256) as u8,
-        (v.e2.voltage / 16777216 % 256) as u8,
-        (v.e2.current % 256) as u8,
-        (v.e2.current / 256 % 256) as u8,
-        (v.e2.current / 65536 % 256) as u8,
-        (v.e2.current / 16777216 % 256) as u8,
-        v.e2.group,
-        v.e2.filter,
-        0,
-        0,
-        (v.e3.voltage % 256) as u8,
-        (v.e3.voltage / 256 % 256) as u8,
-        (v.e3.voltage / 65536 % 256) as u8,
-        (v.e3.voltage / 16777216 % 256) as u8,
-        (v.e3.current % 256) as u8,
-        (v.e3.current / 256 % 256) as u8,
-        (v.e3.current / 65536 % 256) as u8,
-        (v.e3.current / 16777216 % 256) as u8,
-        v.e3.group,
-        v.e3.filter,
-        0,
-        0,
-        (v.basic % 256) as u8,
-        (v.basic / 256 % 256) as u8,
-        (v.high % 256) as u8,
-        (v.high / 256 % 256) as u8,
-        (v.slope1 % 256) as u8,
-        (v.slope1 / 256 % 256) as u8,
-        (v.slope2 % 256) as u8,
-        (v.slope2 / 256 % 256) as u8,
-        (v.third % 256) as u8,
-        (v.third / 256 % 256) as u8,
-        (v.second % 256) as u8,
-        (v.second / 256 % 256) as u8,
-        (v.fifth % 256) as u8,
-        (v.fifth / 256 % 256) as u8,
-    ]
+    let mut t = b;
+    let mut k: usize = 0;
+    while k < piece.len() {
+        let i = at + k;
+        let x = piece[k];
+        t[i] = x;
+        k += 1;
+    }
+    t
+}
+
+fn put_16(b: [u8; 512], at: usize, x: u16) -> [u8; 512]
+    requires { ⌜ at ≤ 510 ⌝ }
+    ensures { λ r. ⌜ Laid b at (bytes16 x) r ⌝ }
+{
+    put(b, at, &block::bytes_16(x))
+}
+
+fn put_32(b: [u8; 512], at: usize, x: u32) -> [u8; 512]
+    requires { ⌜ at ≤ 508 ⌝ }
+    ensures { λ r. ⌜ Laid b at (bytes32 x) r ⌝ }
+{
+    put(b, at, &block::bytes_32(x))
+}
+
+fn put_end(b: [u8; 512], at: usize, e: End) -> [u8; 512]
+    requires { ⌜ at ≤ 500 ⌝ }
+    ensures { λ r. ⌜ Laid b at (endBytes e) r ⌝ }
+{
+    let b = put_32(b, at, e.voltage);
+    let b = put_32(b, at + 4, e.current);
+    put(b, at + 8, &[e.group, e.filter, 0, 0])
 }
 
 // The block of setting values.
 fn block_of(v: Setting) -> [u8; 512]
     ensures { λ r. ⌜ r ≡ blockOf v ⌝ }
 {
-    let h = header(v);
-    let mut b = [0u8; 512];
-    let mut i: usize = 0;
-    while i < 74 {
-        let x = h[i];
-        b[i] = x;
-        i += 1;
-    }
+    let mark = [0x54, 0x44, 0x50, 0x31, v.ends, v.flags, v.confirm, 0];
+    let b = put([0; 512], 0, &mark);
+    let b = put_32(b, 8, v.power);
+    let b = put_end(b, 12, v.e0);
+    let b = put_end(b, 24, v.e1);
+    let b = put_end(b, 36, v.e2);
+    let b = put_end(b, 48, v.e3);
+    let b = put_16(b, 60, v.basic);
+    let b = put_16(b, 62, v.high);
+    let b = put_16(b, 64, v.slope1);
+    let b = put_16(b, 66, v.slope2);
+    let b = put_16(b, 68, v.third);
+    let b = put_16(b, 70, v.second);
+    let b = put_16(b, 72, v.fifth);
     block::seal(b)
 }
 

@@ -1,5 +1,6 @@
 -- `setting_block::reader::setting_at` meets its contract: each field is what the call that reads it ensures.
 use borrow.Author.Needs.{needs}
+use lib.ListN.{getD}
 use Rattle.setting_block.specs.Layout.{settingAt}
 use Rattle.setting_block.proofs.reader.setting_at.Statement.{statement}
 use Rattle.setting_block.proofs.reader.setting_at.Tie as tie
@@ -55,8 +56,25 @@ returns c =
     let high = c .before .before .before .before .before in
     let power = high .before .before in
     let e3 = power .before .before .before .before in
-    rw
-    (e3 .before .before .before .end-at .ensures, e3 .before .before .end-at2 .ensures, e3 .before .end-at3 .ensures, e3 .end-at4 .ensures, power .u32-at .ensures, high .before .u16-at .ensures, high .u16-at2 .ensures, c .before .before .before .before .u16-at3 .ensures, c .before .before .before .u16-at4 .ensures, c .before .before .u16-at5 .ensures, c .before .u16-at6 .ensures, c .u16-at7 .ensures)
+    let s = e3 .before .before .before .before .before .args .s .now in
+    λ i.
+    record {
+      ends = getD s 4 0;
+      flags = getD s 5 0;
+      confirm = getD s 6 0;
+      power = power .u32-at .ensures i;
+      e0 = e3 .before .before .before .end-at .ensures i;
+      e1 = e3 .before .before .end-at2 .ensures i;
+      e2 = e3 .before .end-at3 .ensures i;
+      e3 = e3 .end-at4 .ensures i;
+      basic = high .before .u16-at .ensures i;
+      high = high .u16-at2 .ensures i;
+      slope1 = c .before .before .before .before .u16-at3 .ensures i;
+      slope2 = c .before .before .before .u16-at4 .ensures i;
+      third = c .before .before .u16-at5 .ensures i;
+      second = c .before .u16-at6 .ensures i;
+      fifth = c .u16-at7 .ensures i;
+    }
 
 pub setting-at-spec : {M : Type 1} → statement M
 setting-at-spec =

@@ -1,76 +1,99 @@
--- `setting_block::writer::block_of` meets its contract. The loop's invariant: the block is the header's first i bytes, and zero from i on.
--- The measure is what is left of the header's 74 bytes. Of the 510 bytes that are sealed, 436 are then the zeros after the header.
+-- `setting_block::writer::block_of` meets its contract: the pieces, put one after the other into a block of zeros, are the header, and zeros are left after it.
 use borrow.Author.Needs.{needs}
-use mathlib.Core.Path.{_≡_, refl, ap, _∙_}
-use mathlib.Core.List.{List, _++_}
-use Prim.Native.Nat.{ℕ, _≤_, _-_}
-use native.Mathlib.Omega.{arith}
-use lib.ListN.{length, getD, take, drop, set, replicate}
-use Rattle.block.proofs.Turns.{copy-more}
-use Rattle.setting_block.specs.Layout.{blockOf}
-use Rattle.setting_block.proofs.WriterCases.{copied-start}
+use mathlib.Core.Path.{_∙_}
+use lib.ListN.{replicate}
+use Rattle.setting_block.specs.Layout.{Laid, header}
+use Rattle.setting_block.proofs.WriterCases.{_then_, header-sealed}
 use Rattle.setting_block.proofs.writer.block_of.Statement.{statement}
 use Rattle.setting_block.proofs.writer.block_of.Tie as tie
 
-abbrev Inv-loop : tie.InvT-loop
-Inv-loop h b₀ i₀ b i = (i ≤ 74) × (length b ≡ 512) × (b ≡ take i h ++ drop i (replicate 512 0))
+slice-aggregate-put : tie.Need-slice-aggregate-put
+slice-aggregate-put c = search needs
 
-abbrev μ-loop : tie.MeasureT-loop
-μ-loop h b₀ i₀ b i = 74 - i
+put-requires : tie.Need-put-requires
+put-requires c κs = search needs
 
-header-requires : tie.Need-header-requires Inv-loop μ-loop
-header-requires c κs = search needs
+put-32-requires : tie.Need-put-32-requires
+put-32-requires c κs = search needs
 
-loop-holds : tie.Need-loop-holds Inv-loop μ-loop
-loop-holds c = (search needs, search needs, refl)
+put-end-requires : tie.Need-put-end-requires
+put-end-requires c κs = search needs
 
-array-read-x : tie.Need-array-read-x Inv-loop μ-loop
-array-read-x c = search needs
+put-end-requires-2 : tie.Need-put-end-requires-2
+put-end-requires-2 c κs = search needs
 
-array-write-b : tie.Need-array-write-b Inv-loop μ-loop
-array-write-b c = search needs
+put-end-requires-3 : tie.Need-put-end-requires-3
+put-end-requires-3 c κs = search needs
 
-add-i : tie.Need-add-i Inv-loop μ-loop
-add-i c = search needs
+put-end-requires-4 : tie.Need-put-end-requires-4
+put-end-requires-4 c κs = search needs
 
-loop-less : tie.Need-loop-less Inv-loop μ-loop
-loop-less c = search needs
+put-16-requires : tie.Need-put-16-requires
+put-16-requires c κs = search needs
 
-loop-again : tie.Need-loop-again Inv-loop μ-loop
-loop-again c =
-    let h = c .before .before .header .result in
-    let i = c .before .loop .i in
-    let l : length h ≡ 74 = search needs in (
-      search needs,
-      search needs,
-      ap (λ (z : List ℕ). set z i (getD h i 0)) (c .before .loop .inv .2) ∙ copy-more h (replicate 512 0) i 0 (omega arith) (omega arith),
-    )
+put-16-requires-2 : tie.Need-put-16-requires-2
+put-16-requires-2 c κs = search needs
 
-seal-requires : tie.Need-seal-requires Inv-loop μ-loop
+put-16-requires-3 : tie.Need-put-16-requires-3
+put-16-requires-3 c κs = search needs
+
+put-16-requires-4 : tie.Need-put-16-requires-4
+put-16-requires-4 c κs = search needs
+
+put-16-requires-5 : tie.Need-put-16-requires-5
+put-16-requires-5 c κs = search needs
+
+put-16-requires-6 : tie.Need-put-16-requires-6
+put-16-requires-6 c κs = search needs
+
+put-16-requires-7 : tie.Need-put-16-requires-7
+put-16-requires-7 c κs = search needs
+
+seal-requires : tie.Need-seal-requires
 seal-requires c κs = search needs
 
-returns : tie.Need-returns Inv-loop μ-loop
-unfolding blockOf
-returns c =
-    let loop = c .before .before in
-    let h = loop .before .header .result in
-    let l : length h ≡ 74 = search needs in
-    let e : loop .loop .i ≡ 74 = omega arith in
-    let body : take 510 (loop .loop .b) ≡ h ++ replicate 436 0 = ap (take 510) (loop .loop .inv .2) ∙ rw e (copied-start h (replicate 512 0) 74 436 l) in
-    c .seal .ensures ∙ rw (body, loop .before .header .ensures)
+-- the pieces are the header
+head : (c : tie.After-put-167) → Laid (replicate 512 0) 0 (header (c .before .before .before .before .before .before .before .before .before .before .before .before .before .before .args .v)) (c .put-167 .result)
+unfolding header
+head c =
+    let third = c .before .before in
+    let basic = third .before .before .before .before in
+    let e2 = basic .before .before in
+    let mark = e2 .before .before .before .before in
+    mark .put .ensures
+    then e2 .before .before .before .put-32 .ensures
+    then e2 .before .before .put-end .ensures
+    then e2 .before .put-end2 .ensures
+    then e2 .put-end3 .ensures
+    then basic .before .put-end4 .ensures
+    then basic .put-16 .ensures
+    then third .before .before .before .put-162 .ensures
+    then third .before .before .put-163 .ensures
+    then third .before .put-164 .ensures
+    then third .put-165 .ensures
+    then c .before .put-166 .ensures
+    then c .put-167 .ensures
+
+returns : tie.Need-returns
+returns c = c .seal .ensures ∙ header-sealed _ (head (c .before))
 
 pub block-of-spec : {M : Type 1} → statement M
 block-of-spec =
     tie.close
     (tie.spec
-    Inv-loop
-    μ-loop
-    header-requires
-    loop-holds
-    array-read-x
-    array-write-b
-    add-i
-    loop-less
-    loop-again
+    slice-aggregate-put
+    put-requires
+    put-32-requires
+    put-end-requires
+    put-end-requires-2
+    put-end-requires-3
+    put-end-requires-4
+    put-16-requires
+    put-16-requires-2
+    put-16-requires-3
+    put-16-requires-4
+    put-16-requires-5
+    put-16-requires-6
+    put-16-requires-7
     seal-requires
     returns)
