@@ -6,7 +6,8 @@ use Rattle.integer.specs.Tests.{hold}
 use Rattle.integer.proofs.TestLaws.{is-true}
 use Rattle.setting.specs.Values.{startable}
 use Rattle.relay.specs.declared.Relay.{Relay}
-use Rattle.relay.specs.Record.{windowWithin, countersWithin, admissible}
+use Rattle.record.specs.Record.{windowWithin, countersWithin}
+use Rattle.relay.specs.Record.{admissible}
 
 module _ (r : Relay) where
   pub unsound : startable (r .setting) ≡ false → false ≡ admissible r

@@ -11,7 +11,7 @@ use lib.ListN.{length}
 use Rattle.block.specs.Refusals.{Outcome, gives, declines, Row, _when_, firstOf, leaves}
 use Rattle.setting.specs.declared.Setting.{Setting}
 use Rattle.relay.specs.declared.Relay.{Relay}
-use Rattle.relay.specs.declared.Window.{Window}
+use Rattle.record.specs.declared.Window.{Window}
 use Rattle.relay.specs.declared.Sampled.{Sampled}
 use Rattle.relay.specs.Record.{admissible}
 use Rattle.relay.specs.Calls.{twelve, inReach, unusedZero, accepted, sampleRows, windowAfter, Reply, replyNow, relayNow, replyOf, sampleReply, sampleRelay, Samples, resetRows, cleared, resetReply, resetRelay}

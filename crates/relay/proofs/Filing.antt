@@ -12,8 +12,8 @@ use lib.ListN.{length, take, drop, replicate, length-append, length-drop}
 use lib.Seq.{take-at, drop-append-add, drop-append-le, drop-drop}
 use Rattle.integer.specs.Tests.{Each, none, _&_}
 use Rattle.integer.proofs.TestLaws.{each-append, each-drop}
-use Rattle.relay.specs.declared.Window.{Window}
-use Rattle.relay.specs.Record.{placed}
+use Rattle.record.specs.declared.Window.{Window}
+use Rattle.record.specs.Record.{placed}
 use Rattle.relay.specs.Lists.{last12, windowOf}
 use Rattle.relay.proofs.FlatLists.{Twelve, flat-append, flat-one, flat-length, flat-drop, drop-replicate}
 

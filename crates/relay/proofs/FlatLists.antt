@@ -59,8 +59,3 @@ each-flat ((p & h) & hs) = p & each-flat (h & hs)
 pub each-zero : {P : ℤ → Type 0} → P (pos 0) → (n : ℕ) → Each P (replicate n (pos 0))
 each-zero p zero = none
 each-zero p (suc n) = p & each-zero p n
-
-pub each-take : {P : ℤ → Type 0} {l : List ℤ} → Each P l → (n : ℕ) → Each P (take n l)
-each-take h zero = none
-each-take none (suc n) = none
-each-take (p & h) (suc n) = p & each-take h n

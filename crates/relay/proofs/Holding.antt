@@ -20,10 +20,11 @@ use Rattle.setting.specs.declared.Setting.{Setting}
 use Rattle.setting.specs.Values.{startable}
 use Rattle.matching.specs.Sets.{System, sysA, sysB, sysC, seen, phases, placeOf, matchedAt, numbers, system}
 use Rattle.matching.specs.Bank.{InReach, MatchedBound}
-use Rattle.relay.specs.declared.Element.{Element}
-use Rattle.relay.specs.declared.Window.{Window}
+use Rattle.record.specs.declared.Element.{Element}
+use Rattle.record.specs.declared.Window.{Window}
 use Rattle.relay.specs.declared.Relay.{Relay}
-use Rattle.relay.specs.Record.{elementOf, perSystem, elementAfter, counterAfter, clear, fresh, within800000, windowWithin, countersWithin, admissible, placed}
+use Rattle.record.specs.Record.{elementOf, perSystem, elementAfter, counterAfter, clear, within800000, windowWithin, countersWithin, placed}
+use Rattle.relay.specs.Record.{fresh, admissible}
 use Rattle.relay.specs.Calls.{twelve, inReach, unusedZero, accepted, windowAfter, full, counting, elementNow, relayNow, replyNow, cleared, sampleReply, sampleRelay}
 use Rattle.relay.specs.Lists.{Call, sample, reset, after, run, filedBy, filed, last12, windowOf, WindowFiled, Answered}
 use Rattle.relay.proofs.FlatLists.{Twelve, each-flat, each-zero}

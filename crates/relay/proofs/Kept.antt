@@ -8,13 +8,14 @@ use Rattle.integer.specs.Tests.{hold, none, _&_}
 use Rattle.integer.proofs.TestLaws.{hold-at, hold-of, is-true, each-test}
 use Rattle.matching.specs.Sets.{System, sysA, sysB, sysC, numbers}
 use Rattle.relay.specs.declared.Relay.{Relay}
-use Rattle.relay.specs.Record.{elementOf, perSystem, within800000, windowWithin, countersWithin, admissible}
+use Rattle.record.specs.Record.{elementOf, perSystem, within800000, windowWithin, countersWithin}
+use Rattle.relay.specs.Record.{admissible}
 use Rattle.relay.specs.Calls.{accepted, windowAfter, elementNow, relayNow, sampleRelay}
 use Rattle.relay.proofs.Admission.{admitted-is}
 use Rattle.relay.proofs.Below.{matched-bound}
 use Rattle.relay.proofs.Cases.{sample-leaves}
 use Rattle.relay.proofs.Holding.{element-≤, reach, sized-of}
-use Rattle.relay.proofs.Placed.{each-sized, placed-sized, placed-fill}
+use Rattle.record.proofs.Placed.{each-sized, placed-sized, placed-fill}
 
 is-T : {b : Bool} → b ≡ true → T b
 is-T e = rw e tt

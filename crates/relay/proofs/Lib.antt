@@ -4,10 +4,7 @@ pub mod Filing
 pub mod Cases
 pub mod Holding
 pub mod Quiet
-mod Scans
-mod Moves
 pub mod Admission
-pub mod Placed
 pub mod Below
 pub mod Settled
 pub mod Ready

@@ -26,13 +26,14 @@ use Rattle.matching.specs.Bank.{Healthy, total, TotalBound, MatchedBound}
 use Rattle.amplitude.specs.Amplitude.{amplitude}
 use Rattle.amplitude.specs.Peak.{peak, PeakBound}
 use Rattle.amplitude.proofs.PeakLaws.{peak-small}
-use Rattle.relay.specs.declared.Element.{Element}
-use Rattle.relay.specs.declared.Window.{Window}
+use Rattle.record.specs.declared.Element.{Element}
+use Rattle.record.specs.declared.Window.{Window}
 use Rattle.relay.specs.declared.Relay.{Relay}
 use Rattle.measuring.specs.Window.{at, sums}
 use Rattle.measuring.specs.Characteristic.{firstSection, secondSection, thirdSection, starts, counts}
 use Rattle.measuring.specs.Measuring.{differential, twiceRestraint, start, blocked, readingOf}
-use Rattle.relay.specs.Record.{elementOf, elementAfter, clear, fresh, admissible}
+use Rattle.record.specs.Record.{elementOf, elementAfter, clear}
+use Rattle.relay.specs.Record.{fresh, admissible}
 use Rattle.relay.specs.Calls.{accepted, sampleRows, windowAfter, full, counting, elementNow, measureNow, replyNow, relayNow, cleared, sampleReply, resetReply, Reply, filling, measured}
 use Rattle.relay.specs.Lists.{Call, sample, reset, after, filedBy, last12, windowOf}
 use Rattle.relay.specs.Stability.{HealthyCall, Calm, CalmReply, CalmOutcome, Not12, CalmCall, NoLatch, Stays, Stability}

@@ -15,13 +15,14 @@ use Rattle.setting.proofs.LimitLaws.{Startable, startable-is}
 use Rattle.matching.specs.Sets.{numbers}
 use Rattle.matching.specs.Sized.{Accepted}
 use Rattle.measuring.specs.Sized.{Sized, Measurable}
-use Rattle.relay.specs.declared.Window.{Window}
+use Rattle.record.specs.declared.Window.{Window}
 use Rattle.relay.specs.declared.Relay.{Relay}
-use Rattle.relay.specs.Record.{windowWithin, admissible, placed}
+use Rattle.record.specs.Record.{windowWithin, placed}
+use Rattle.relay.specs.Record.{admissible}
 use Rattle.relay.specs.Calls.{inReach, windowAfter}
 use Rattle.relay.proofs.Admission.{admitted-is}
 use Rattle.relay.proofs.Holding.{reach-of, sized-of, numbers-twelve}
-use Rattle.relay.proofs.Placed.{each-sized, placed-each}
+use Rattle.record.proofs.Placed.{each-sized, placed-each}
 use Rattle.relay.proofs.Below.{matched-bound}
 
 is-T : {b : Bool} → b ≡ true → T b

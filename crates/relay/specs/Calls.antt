@@ -13,8 +13,8 @@ use Rattle.setting.specs.declared.Setting.{Setting}
 use Rattle.setting.specs.Values.{startRows, fields}
 use Rattle.setting.specs.Calls.{Wrong, verdictOutcome, verdictOffsets}
 use Rattle.matching.specs.Sets.{System, sysA, sysB, sysC, numbers}
-use Rattle.relay.specs.declared.Element.{Element}
-use Rattle.relay.specs.declared.Window.{Window}
+use Rattle.record.specs.declared.Element.{Element}
+use Rattle.record.specs.declared.Window.{Window}
 use Rattle.relay.specs.declared.Relay.{Relay}
 use Rattle.relay.specs.declared.Measure.{Measure}
 use Rattle.relay.specs.declared.Answer.{Answer}
@@ -26,7 +26,8 @@ use Rattle.relay.specs.declared.Restarted.{Restarted}
 use Rattle.relay.specs.declared.Started.{Started}
 use Rattle.measuring.specs.Characteristic.{counts}
 use Rattle.measuring.specs.Measuring.{differential, start, blocked, readingOf}
-use Rattle.relay.specs.Record.{elementOf, perSystem, elementAfter, clear, fresh, admissible, placed}
+use Rattle.record.specs.Record.{elementOf, perSystem, elementAfter, clear, placed}
+use Rattle.relay.specs.Record.{fresh, admissible}
 
 -- ---- which sets are accepted
 

@@ -19,7 +19,8 @@ use Rattle.matching.specs.Sets.{System, sysA, sysB, sysC, seen, matchedAt, numb
 use Rattle.amplitude.specs.Amplitude.{t, weightedSum, cycle, amplitude}
 use Rattle.measuring.specs.Characteristic.{starts, hasHarmonics}
 use Rattle.measuring.specs.Measuring.{twiceRestraint, harmonics, blocked}
-use Rattle.relay.specs.Record.{elementOf, elementAfter, fresh, admissible, placed}
+use Rattle.record.specs.Record.{elementOf, elementAfter, placed}
+use Rattle.relay.specs.Record.{fresh, admissible}
 use Rattle.relay.specs.Calls.{sampleRows, relayNow}
 use Rattle.relay.specs.Lists.{Call, sample, run}
 

@@ -10,7 +10,7 @@ use Rattle.block.specs.Refusals.{Outcome, gives, declines}
 use Rattle.setting.specs.declared.Setting.{Setting}
 use Rattle.setting.specs.Values.{startable}
 use Rattle.matching.specs.Sets.{numbers}
-use Rattle.relay.specs.declared.Window.{Window}
+use Rattle.record.specs.declared.Window.{Window}
 use Rattle.relay.specs.declared.Relay.{Relay}
 use Rattle.relay.specs.Record.{fresh}
 use Rattle.relay.specs.Calls.{accepted, Reply, replyNow, sampleReply, sampleRelay, resetRelay}

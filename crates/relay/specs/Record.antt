@@ -1,41 +1,12 @@
 -- The relay record, and which records are admissible (document 01, "Characteristic and trip" and refusal 12).
-use mathlib.Core.Bool.{Bool, true, false, not, _&&_, _||_, cond}
-use mathlib.Core.List.{List, [], _∷_, _++_}
-use Prim.Native.Nat.{ℕ, _+_, _*_}
-use lib.Dec.{leb, ltb, eqb}
-use lib.IntN.{ℤ, pos, natAbs}
-use lib.ListN.{take, drop, replicate}
-use Rattle.integer.specs.Tests.{each, hold}
+use mathlib.Core.Bool.{Bool, _&&_}
+use lib.IntN.{pos}
+use lib.ListN.{replicate}
+use Rattle.integer.specs.Tests.{hold}
 use Rattle.setting.specs.declared.Setting.{Setting}
 use Rattle.setting.specs.Values.{startable}
-use Rattle.matching.specs.Sets.{System, sysA, sysB, sysC}
-use Rattle.relay.specs.declared.Element.{Element}
-use Rattle.relay.specs.declared.Trip.{Trip}
-use Rattle.relay.specs.declared.Window.{Window}
+use Rattle.record.specs.Record.{perSystem, clear, windowWithin, countersWithin}
 use Rattle.relay.specs.declared.Relay.{Relay}
-
--- ---- the counter and the latch of a system
-
-abbrev pub elementOf : Trip → System → Element
-elementOf t sysA = t .a
-elementOf t sysB = t .b
-elementOf t sysC = t .c
-
--- something of each system
-abbrev pub perSystem : (System → Element) → Trip
-perSystem f = record { a = f sysA; b = f sysB; c = f sysC }
-
--- at a counting set the counter grows by one, at most to M; a set that does not count clears it
-abbrev pub counterAfter : (M : ℕ) (counts : Bool) → ℕ → ℕ
-counterAfter M counts c = cond counts (cond (ltb c M) (c + 1) M) 0
-
--- when it is then M, the trip latches; nothing but a reset clears the latch
-unfoldable pub elementAfter : (M : ℕ) (counts : Bool) → Element → Element
-elementAfter M counts e =
-    record { count = counterAfter M counts (e .count); latch = e .latch || (counts && eqb (counterAfter M counts (e .count)) M) }
-
-abbrev pub clear : Element
-clear = record { count = 0; latch = false }
 
 -- ---- a fresh relay: the values of its setting, empty windows, all else zero or clear
 
@@ -49,27 +20,5 @@ fresh v =
 
 -- ---- refusal 12: its setting breaks 4 to 7, fill above 12, a matched number in any place beyond ±800,000, or a counter above M
 
-abbrev pub within800000 : ℤ → Bool
-within800000 x = leb (natAbs x) 800000
-
-abbrev pub windowWithin : Window → List Bool
-windowWithin w = leb (w .fill) 12 ∷ each within800000 (w .values) ∷ []
-
-abbrev pub countersWithin : (M : ℕ) → Trip → List Bool
-countersWithin M t = leb (t .a .count) M ∷ leb (t .b .count) M ∷ leb (t .c .count) M ∷ []
-
 unfoldable pub admissible : Relay → Bool
 admissible r = startable (r .setting) && (hold (windowWithin (r .window)) && hold (countersWithin (r .setting .confirm) (r .trip)))
-
--- ---- the window after a set
-
--- its twelve numbers are filed after the sets held
-abbrev pub afterHeld : Window → List ℤ → Window
-afterHeld w ns = record { values = take (12 * w .fill) (w .values) ++ (ns ++ drop (12 * w .fill + 12) (w .values)); fill = w .fill + 1 }
-
--- or, where twelve are held, at the end, once the oldest has gone
-abbrev pub atEnd : Window → List ℤ → Window
-atEnd w ns = record { values = drop 12 (w .values) ++ ns; fill = 12 }
-
-unfoldable pub placed : Window → List ℤ → Window
-placed w ns = cond (ltb (w .fill) 12) (afterHeld w ns) (atEnd w ns)

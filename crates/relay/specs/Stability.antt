@@ -14,7 +14,8 @@ use Rattle.matching.specs.Bank.{Healthy}
 use Rattle.amplitude.specs.Peak.{peak}
 use Rattle.relay.specs.declared.Measure.{Measure}
 use Rattle.relay.specs.declared.Relay.{Relay}
-use Rattle.relay.specs.Record.{elementOf, fresh}
+use Rattle.record.specs.Record.{elementOf}
+use Rattle.relay.specs.Record.{fresh}
 use Rattle.relay.specs.Calls.{accepted, Reply, filling, measured, sampleReply, resetReply}
 use Rattle.relay.specs.Lists.{Call, sample, reset, after}
 

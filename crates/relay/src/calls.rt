@@ -7,22 +7,23 @@ ghost use Rattle.block.specs.Refusals.{gives, declines, numberOf};
 ghost use Rattle.setting.specs.Limits.{fourFactors};
 ghost use Rattle.measuring.specs.Characteristic.{counts as countsOf};
 ghost use Rattle.measuring.specs.Sized.{Measurable};
-ghost use Rattle.relay.specs.Record.{elementAfter, admissible};
+ghost use Rattle.record.specs.Record.{elementAfter};
+ghost use Rattle.relay.specs.Record.{admissible};
 ghost use Rattle.relay.specs.Calls.{blank as blankOf, full, replyNow, relayNow, replyOf, Samples, Resets, Starts};
 use crate::Answer;
-use crate::Element;
 use crate::Measure;
 use crate::Relay;
 use crate::ResetAnswer;
 use crate::Restarted;
 use crate::Sampled;
 use crate::Started;
-use crate::Trip;
-use crate::Window;
 use crate::records;
 use crate::sets;
 use block::Refusal;
 use measuring::Reading;
+use record::Element;
+use record::Trip;
+use record::Window;
 use setting::End;
 use setting::Setting;
 use setting::Verdict;
@@ -74,7 +75,7 @@ fn counts(v: Setting, m: Reading) -> bool
 fn element_now(v: Setting, m: Reading, e: Element) -> Element
     ensures { λ r. ⌜ r ≡ elementAfter (v .confirm) (countsOf v (m .d) (m .start) (m .blocked)) e ⌝ }
 {
-    records::element_after(v.confirm, counts(v, m), e)
+    record::element_after(v.confirm, counts(v, m), e)
 }
 
 // A set filed in a window that is not full yet: the number held, counters cleared.
@@ -85,9 +86,9 @@ fn filling(r: Relay, w: Window) -> Sampled
     let v = r.setting;
     let t = r.trip;
     let trip = Trip {
-        a: records::element_after(v.confirm, false, t.a),
-        b: records::element_after(v.confirm, false, t.b),
-        c: records::element_after(v.confirm, false, t.c),
+        a: record::element_after(v.confirm, false, t.a),
+        b: record::element_after(v.confirm, false, t.b),
+        c: record::element_after(v.confirm, false, t.c),
     };
     let n = w.fill;
     let relay = Relay {
@@ -166,7 +167,7 @@ pub fn sample_admitted(r: Relay, factors: [i64; 4], set: &[i16]) -> Sampled
         return refused(r, Refusal::Unused);
     }
     let old = r.window;
-    let w = records::place(old, matching::numbers(v, factors, set));
+    let w = record::place(old, matching::numbers(v, factors, set));
     if w.fill < 12 {
         return filling(r, w);
     }

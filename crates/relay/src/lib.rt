@@ -7,26 +7,10 @@ pub mod theorems;
 
 use block::Refusal;
 use measuring::Reading;
+use record::Trip;
+use record::Window;
 use setting::Setting;
 use setting::Verdict;
-
-// Twelve places of matched numbers: number 12k + 3z + y is that of set k (oldest 0), end z and system y. `fill` places are held.
-pub struct Window {
-    pub values: [i32; 144],
-    pub fill: u8,
-}
-
-// The counter and the latch of a system, and those of the three.
-pub struct Element {
-    pub count: u8,
-    pub latch: bool,
-}
-
-pub struct Trip {
-    pub a: Element,
-    pub b: Element,
-    pub c: Element,
-}
 
 // The relay record.
 pub struct Relay {

@@ -1,59 +1,12 @@
-// The relay record: which are admissible, a set filed in the window, counters and latches.
+// The relay record: which are admissible, and that of a fresh relay.
 
 ghost use mathlib.Core.Path.{_≡_};
-ghost use mathlib.Core.Bool.{true};
-ghost use mathlib.Core.List.{_++_};
-ghost use Prim.Native.Nat.{_+_, _≤_};
-ghost use lib.ListN.{length, take, drop};
-ghost use Rattle.integer.specs.Tests.{each, hold};
-ghost use Rattle.relay.specs.Record.{within800000, windowWithin, countersWithin, admissible as admissibleOf, placed, counterAfter, elementAfter, fresh as freshOf};
-use crate::Element;
+ghost use Rattle.relay.specs.Record.{admissible as admissibleOf, fresh as freshOf};
 use crate::Relay;
-use crate::Trip;
-use crate::Window;
+use record::Element;
+use record::Trip;
+use record::Window;
 use setting::Setting;
-
-// No number beyond 800,000.
-fn within(values: &[i32]) -> bool
-    ensures { λ r. ⌜ r ≡ each within800000 (now (values .entry)) ⌝ }
-{
-    let mut i: usize = 0;
-    while i < values.len() {
-        let x = values[i];
-        if x < -800000 {
-            return false;
-        }
-        if 800000 < x {
-            return false;
-        }
-        i += 1;
-    }
-    true
-}
-
-// At most twelve places held, and no number beyond 800,000.
-fn window_within(w: Window) -> bool
-    ensures { λ ok. ⌜ ok ≡ hold (windowWithin w) ⌝ }
-{
-    let values = w.values;
-    if 12 < w.fill {
-        return false;
-    }
-    within(&values)
-}
-
-// No counter above the confirm count.
-fn counters_within(confirm: u8, t: Trip) -> bool
-    ensures { λ ok. ⌜ ok ≡ hold (countersWithin confirm t) ⌝ }
-{
-    if confirm < t.a.count {
-        return false;
-    }
-    if confirm < t.b.count {
-        return false;
-    }
-    t.c.count <= confirm
-}
 
 // Whether a record is one that the calls take: refusal 12.
 pub fn admissible(r: Relay) -> bool
@@ -65,92 +18,10 @@ pub fn admissible(r: Relay) -> bool
     if !setting::judging::sound(v) {
         return false;
     }
-    if !window_within(w) {
+    if !record::window_within(w) {
         return false;
     }
-    counters_within(v.confirm, t)
-}
-
-// The numbers with those from 12 on moved to the front.
-fn shifted(values: [i32; 144]) -> [i32; 144]
-    ensures { λ r. ⌜ r ≡ drop 12 values ++ drop 132 values ⌝ }
-{
-    let mut t = values;
-    let mut k: usize = 0;
-    while k < 132 {
-        let i = k + 12;
-        let x = t[i];
-        t[k] = x;
-        k += 1;
-    }
-    t
-}
-
-// The numbers with twelve put at a place.
-fn put(values: [i32; 144], at: usize, ns: [i32; 12]) -> [i32; 144]
-    requires { ⌜ at ≤ 132 ⌝ }
-    ensures { λ r. ⌜ r ≡ take at values ++ (ns ++ drop (at + 12) values) ⌝ }
-{
-    let mut t = values;
-    let mut k: usize = 0;
-    while k < 12 {
-        let i = at + k;
-        let x = ns[k];
-        t[i] = x;
-        k += 1;
-    }
-    t
-}
-
-// The window with a set's numbers filed: after those held, or at the end once the oldest has gone.
-pub fn place(w: Window, ns: [i32; 12]) -> Window
-    requires { ⌜ w .fill ≤ 12 ⌝ }
-    ensures { λ r. ⌜ (r ≡ placed w ns) × (length (r .values) ≡ 144) ⌝ }
-{
-    let fill = w.fill;
-    let old = w.values;
-    if fill < 12 {
-        let values = put(old, 12 * (fill as usize), ns);
-        return Window {
-            values: values,
-            fill: fill + 1,
-        };
-    }
-    let values = put(shifted(old), 132, ns);
-    Window {
-        values: values,
-        fill: 12,
-    }
-}
-
-// One more, at most to the confirm count.
-fn grown(confirm: u8, count: u8) -> u8
-    ensures { λ r. ⌜ r ≡ counterAfter confirm true count ⌝ }
-{
-    if count < confirm { count + 1 } else { confirm }
-}
-
-// The counter and the latch of a system after a set.
-pub fn element_after(confirm: u8, counts: bool, e: Element) -> Element
-    ensures { λ r. ⌜ r ≡ elementAfter confirm counts e ⌝ }
-{
-    if !counts {
-        return Element {
-            count: 0,
-            latch: e.latch,
-        };
-    }
-    let count = grown(confirm, e.count);
-    if e.latch {
-        return Element {
-            count: count,
-            latch: true,
-        };
-    }
-    Element {
-        count: count,
-        latch: count == confirm,
-    }
+    record::counters_within(v.confirm, t)
 }
 
 // A fresh relay of setting values.

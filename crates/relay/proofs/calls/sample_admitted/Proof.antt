@@ -11,11 +11,11 @@ use Rattle.block.specs.Refusals.{gives}
 use Rattle.matching.specs.Sets.{numbers}
 use Rattle.measuring.specs.Sized.{Measurable}
 use Rattle.relay.specs.declared.Relay.{Relay}
-use Rattle.relay.specs.Record.{placed}
+use Rattle.record.specs.Record.{placed}
 use Rattle.relay.specs.Calls.{inReach, windowAfter, replyNow, relayNow}
 use Rattle.relay.proofs.Cases.{Answers, case-14, case-10, case-11, case-taken, samples-of}
 use Rattle.relay.proofs.Ready.{few-held, numbers-ready, measure-ready}
-use Rattle.relay.proofs.Placed.{placed-fill}
+use Rattle.record.proofs.Placed.{placed-fill}
 use Rattle.relay.proofs.calls.sample_admitted.Statement.{statement}
 use Rattle.relay.proofs.calls.sample_admitted.Tie as tie
 

@@ -7,7 +7,7 @@ use mir.Syntax.{w16}
 use Rattle.integer.specs.Tests.{each}
 use Rattle.block.proofs.Turns.{each-done}
 use Rattle.relay.specs.Calls.{inReach}
-use Rattle.relay.proofs.Scans.{below, above, neither}
+use Rattle.record.proofs.Scans.{below, above, neither}
 use Rattle.relay.proofs.sets.in_reach.Statement.{statement}
 use Rattle.relay.proofs.sets.in_reach.Tie as tie
 

@@ -8,7 +8,7 @@ use lib.IntN.{ℤ, pos}
 use mathlib.Core.Bool.{Bool}
 use Rattle.integer.specs.Tests.{each, eqZ}
 use Rattle.block.proofs.Turns.{each-stop, each-more, each-done}
-use Rattle.relay.proofs.Scans.{not-zero, is-zero}
+use Rattle.record.proofs.Scans.{not-zero, is-zero}
 use Rattle.relay.proofs.sets.unused_zero.Statement.{statement}
 use Rattle.relay.proofs.sets.unused_zero.Tie as tie
 

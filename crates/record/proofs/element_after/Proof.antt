@@ -1,13 +1,13 @@
--- `relay::records::element_after` meets its contract: not counting, counting with the latch set already, and counting.
+-- `record::element_after` meets its contract: not counting, counting with the latch set already, and counting.
 use borrow.Author.Needs.{needs}
 use borrow.Author.Tests.{not-true, not-false}
 use mathlib.Core.Path.{_≡_, sym}
 use mathlib.Core.Bool.{false, or-false}
 use Prim.Native.Nat.{ℕ}
-use Rattle.relay.specs.declared.Element.{Element}
-use Rattle.relay.specs.Record.{elementAfter}
-use Rattle.relay.proofs.records.element_after.Statement.{statement}
-use Rattle.relay.proofs.records.element_after.Tie as tie
+use Rattle.record.specs.declared.Element.{Element}
+use Rattle.record.specs.Record.{elementAfter}
+use Rattle.record.proofs.element_after.Statement.{statement}
+use Rattle.record.proofs.element_after.Tie as tie
 
 not-counting : (M : ℕ) (e : Element) → _≡_ {A = Element} (record { count = 0; latch = e .latch }) (elementAfter M false e)
 unfolding elementAfter

@@ -1,4 +1,4 @@
--- `relay::records::window_within` meets its contract.
+-- `record::window_within` meets its contract.
 use borrow.Author.Needs.{needs}
 use borrow.Author.Tests.{le-leb, lt-leb}
 use mathlib.Core.Bool.{Bool, and-true}
@@ -7,8 +7,8 @@ use mathlib.Core.Path.{_≡_, sym, _∙_}
 use Prim.Native.Nat.{ℕ, _≤_}
 use lib.Dec.{leb}
 use Rattle.integer.specs.Tests.{hold}
-use Rattle.relay.proofs.records.window_within.Statement.{statement}
-use Rattle.relay.proofs.records.window_within.Tie as tie
+use Rattle.record.proofs.window_within.Statement.{statement}
+use Rattle.record.proofs.window_within.Tie as tie
 
 last : (n : ℕ) (b : Bool) → n ≤ 12 → b ≡ hold (leb n 12 ∷ b ∷ [])
 last n b h = rw (le-leb n 12 h) (sym (and-true b))

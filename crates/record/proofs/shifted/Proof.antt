@@ -1,13 +1,13 @@
--- `relay::records::shifted` meets its contract. The loop's invariant: the first k numbers are those from 12 on, the rest as they were.
+-- `record::shifted` meets its contract. The loop's invariant: the first k numbers are those from 12 on, the rest as they were.
 use Prim.Native.Nat.{ℕ, _≤_, _-_}
 use mathlib.Core.Path.{_≡_, _∙_}
 use lib.ListN.{length, drop}
 use lib.Seq.{paste, paste-zero}
 use native.Mathlib.Omega.{arith}
 use borrow.Author.Needs.{needs}
-use Rattle.relay.proofs.Moves.{shift-more, shift-all}
-use Rattle.relay.proofs.records.shifted.Statement.{statement}
-use Rattle.relay.proofs.records.shifted.Tie as tie
+use Rattle.record.proofs.Moves.{shift-more, shift-all}
+use Rattle.record.proofs.shifted.Statement.{statement}
+use Rattle.record.proofs.shifted.Tie as tie
 
 abbrev Inv-loop : tie.InvT-loop
 Inv-loop t₀ k₀ t k = (k ≤ 132) × (t ≡ paste t₀ 0 (drop 12 t₀) k)

@@ -1,4 +1,4 @@
--- `relay::records::place` meets its contract: while there is room the numbers go after those held; else the oldest go, and they go last.
+-- `record::place` meets its contract: while there is room the numbers go after those held; else the oldest go, and they go last.
 use borrow.Author.Needs.{needs}
 use borrow.Author.Tests.{lt-ltb, le-ltb}
 use mathlib.Core.Path.{_≡_, _∙_}
@@ -6,11 +6,11 @@ use mathlib.Core.List.{List}
 use lib.IntN.{ℤ}
 use lib.ListN.{length}
 use Prim.Native.Nat.{ℕ}
-use Rattle.relay.specs.declared.Window.{Window}
-use Rattle.relay.specs.Record.{placed}
-use Rattle.relay.proofs.Moves.{put-last}
-use Rattle.relay.proofs.records.place.Statement.{statement}
-use Rattle.relay.proofs.records.place.Tie as tie
+use Rattle.record.specs.declared.Window.{Window}
+use Rattle.record.specs.Record.{placed}
+use Rattle.record.proofs.Moves.{put-last}
+use Rattle.record.proofs.place.Statement.{statement}
+use Rattle.record.proofs.place.Tie as tie
 
 same-values : (a b : List ℤ) (n : ℕ) → a ≡ b → _≡_ {A = Window} (record { values = a; fill = n }) (record { values = b; fill = n })
 same-values a b n e = λ i. record { values = e i; fill = n }

@@ -1,4 +1,4 @@
--- `relay::records::counters_within` meets its contract: one counter after the other.
+-- `record::counters_within` meets its contract: one counter after the other.
 use borrow.Author.Tests.{le-leb, lt-leb}
 use mathlib.Core.Bool.{and-true, false}
 use mathlib.Core.List.{[], _∷_}
@@ -6,8 +6,8 @@ use mathlib.Core.Path.{_≡_, sym}
 use Prim.Native.Nat.{ℕ, _≤_, _<_}
 use lib.Dec.{leb}
 use Rattle.integer.specs.Tests.{hold}
-use Rattle.relay.proofs.records.counters_within.Statement.{statement}
-use Rattle.relay.proofs.records.counters_within.Tie as tie
+use Rattle.record.proofs.counters_within.Statement.{statement}
+use Rattle.record.proofs.counters_within.Tie as tie
 
 module _ (a b d m : ℕ) where
   first-above : m < a → false ≡ hold (leb a m ∷ leb b m ∷ leb d m ∷ [])

@@ -1,8 +1,8 @@
--- `relay::records::grown` meets its contract.
+-- `record::grown` meets its contract.
 use borrow.Author.Needs.{needs}
 use borrow.Author.Tests.{lt-ltb, le-ltb}
-use Rattle.relay.proofs.records.grown.Statement.{statement}
-use Rattle.relay.proofs.records.grown.Tie as tie
+use Rattle.record.proofs.grown.Statement.{statement}
+use Rattle.record.proofs.grown.Tie as tie
 
 add-result : tie.Need-add-result
 add-result c = search needs

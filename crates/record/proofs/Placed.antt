@@ -2,19 +2,23 @@
 use mathlib.Core.Path.{_≡_, refl}
 use mathlib.Core.Bool.{Bool, true, false, cond}
 use mathlib.Core.List.{List, _++_}
-use Prim.Native.Nat.{ℕ, _+_, _*_, _≤_}
+use Prim.Native.Nat.{ℕ, zero, suc, _+_, _*_, _≤_}
 use native.Mathlib.Omega.{arith}
 use lib.Dec.{T, ltb, leb→le}
 use borrow.Author.Tests.{ltb-true}
 use lib.IntN.{ℤ, pos, natAbs}
-use lib.ListN.{getD}
+use lib.ListN.{getD, take}
 use Rattle.integer.specs.Within.{_within_}
-use Rattle.integer.specs.Tests.{each, Each}
+use Rattle.integer.specs.Tests.{each, Each, none, _&_}
 use Rattle.integer.proofs.Reading.{ints}
 use Rattle.integer.proofs.TestLaws.{test-each, each-append, each-drop, each-get}
-use Rattle.relay.specs.declared.Window.{Window}
-use Rattle.relay.specs.Record.{within800000, afterHeld, atEnd, placed}
-use Rattle.relay.proofs.FlatLists.{each-take}
+use Rattle.record.specs.declared.Window.{Window}
+use Rattle.record.specs.Record.{within800000, afterHeld, atEnd, placed}
+
+pub each-take : {P : ℤ → Type 0} {l : List ℤ} → Each P l → (n : ℕ) → Each P (take n l)
+each-take h zero = none
+each-take none (suc n) = none
+each-take (p & h) (suc n) = p & each-take h n
 
 -- the numbers of a record that passes the test
 pub each-sized : (l : List ℤ) → T (each within800000 l) → Each (λ x. x within 800000) l

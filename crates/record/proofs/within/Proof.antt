@@ -1,4 +1,4 @@
--- `relay::records::within` meets its contract. The loop's invariant: the numbers from i on are within the bound if and only if all are.
+-- `record::within` meets its contract. The loop's invariant: the numbers from i on are within the bound if and only if all are.
 use borrow.Author.Needs.{needs}
 use mathlib.Core.Path.{_≡_}
 use Prim.Native.Nat.{_≤_, _-_}
@@ -6,10 +6,10 @@ use lib.ListN.{length, drop}
 use mir.Syntax.{w32}
 use Rattle.integer.specs.Tests.{each}
 use Rattle.block.proofs.Turns.{each-done}
-use Rattle.relay.specs.Record.{within800000}
-use Rattle.relay.proofs.Scans.{below, above, neither}
-use Rattle.relay.proofs.records.within.Statement.{statement}
-use Rattle.relay.proofs.records.within.Tie as tie
+use Rattle.record.specs.Record.{within800000}
+use Rattle.record.proofs.Scans.{below, above, neither}
+use Rattle.record.proofs.within.Statement.{statement}
+use Rattle.record.proofs.within.Tie as tie
 
 abbrev Inv-loop : tie.InvT-loop
 Inv-loop values i₀ i = (i ≤ length values) × (each within800000 (drop i values) ≡ each within800000 values)

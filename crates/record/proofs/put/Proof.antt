@@ -1,13 +1,13 @@
--- `relay::records::put` meets its contract. The loop's invariant: the first k numbers stand at their places.
+-- `record::put` meets its contract. The loop's invariant: the first k numbers stand at their places.
 use Prim.Native.Nat.{ℕ, _≤_, _-_}
 use mathlib.Core.Path.{_≡_, _∙_}
 use lib.ListN.{length}
 use lib.Seq.{paste, paste-zero}
 use native.Mathlib.Omega.{arith}
 use borrow.Author.Needs.{needs}
-use Rattle.relay.proofs.Moves.{put-more, put-all}
-use Rattle.relay.proofs.records.put.Statement.{statement}
-use Rattle.relay.proofs.records.put.Tie as tie
+use Rattle.record.proofs.Moves.{put-more, put-all}
+use Rattle.record.proofs.put.Statement.{statement}
+use Rattle.record.proofs.put.Tie as tie
 
 abbrev Inv-loop : tie.InvT-loop
 Inv-loop at ns t₀ k₀ t k = (k ≤ 12) × (t ≡ paste t₀ at ns k)
