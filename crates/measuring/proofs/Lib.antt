@@ -1,6 +1,4 @@
--- Laws that more than one proof cites, and that of a quiet system.
+-- Laws that more than one proof cites.
 mod Fill
 mod Places
 mod Windows
-mod Fields
-pub mod Bound

@@ -7,11 +7,11 @@ use lib.IntN.{ℤ}
 use Rattle.setting.specs.declared.Setting.{Setting}
 use Rattle.matching.specs.Sets.{System, sysA, sysB, sysC}
 use Rattle.amplitude.specs.Amplitude.{amplitude}
-use Rattle.measuring.specs.declared.Currents.{Currents}
+use Rattle.characteristic.specs.declared.Currents.{Currents}
+use Rattle.characteristic.specs.Characteristic.{starts, hasHarmonics, commonOn}
 use Rattle.measuring.specs.declared.Reading.{Reading}
 use Rattle.measuring.specs.declared.Readings.{Readings}
 use Rattle.measuring.specs.Window.{series, sums, difference}
-use Rattle.measuring.specs.Characteristic.{starts, hasHarmonics, commonOn}
 
 -- D, H2 and H5 are the amplitudes for h = 1, 2, 5 of the sum of v over the ends.
 abbrev pub differential : Setting → List ℤ → System → ℕ

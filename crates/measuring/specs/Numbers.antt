@@ -17,7 +17,7 @@ use Rattle.setting.specs.Values.{fields, factor, factorHigh, factorsLow, valueR
 use Rattle.matching.specs.Matching.{Three, three, operation, operated, matched}
 use Rattle.matching.specs.Sets.{sysA, sysB, sysC, seen}
 use Rattle.amplitude.specs.Amplitude.{t, weightedSum, cycle, amplitude}
-use Rattle.measuring.specs.Characteristic.{starts}
+use Rattle.characteristic.specs.Characteristic.{starts}
 use Rattle.measuring.specs.Measuring.{differential, second, fifth}
 
 -- A row: what the definitions give, and the number to meet.

@@ -6,7 +6,6 @@ use lib.IntN.{ℤ, pos}
 use lib.ListN.{length, getD}
 use Rattle.integer.specs.Within.{_within_}
 use Rattle.setting.specs.declared.Setting.{Setting}
-use Rattle.measuring.specs.declared.Currents.{Currents}
 
 -- twelve places of twelve numbers, each as large as a record may hold
 pub record Sized (win : List ℤ) : Type 0 where
@@ -23,10 +22,3 @@ pub record Measurable (v : Setting) (win : List ℤ) : Type 0 where
   pub ends : Ends (v .ends)
   pub sections : v .basic ≤ 2 * v .third
   pub sized : Sized win
-
--- currents that the characteristic's sums take
-pub record Ranged (c : Currents) : Type 0 where
-  pub d : c .d ≤ 6400000
-  pub r : c .r ≤ 25600000
-  pub h2 : c .h2 ≤ 6400000
-  pub h5 : c .h5 ≤ 6400000

@@ -1,4 +1,4 @@
-// Measuring a full window: differential, restraint, harmonics, characteristic and blocking of the three systems.
+// Measuring a full window: differential, restraint, harmonics, start and blocking of the three systems.
 
 ghost use mathlib.Core.Path.{_≡_};
 ghost use mathlib.Core.Bool.{_||_};
@@ -9,21 +9,14 @@ ghost use Rattle.integer.specs.Lists.{upTo};
 ghost use Rattle.integer.specs.Sum.{sum};
 ghost use Rattle.integer.specs.Within.{_within_};
 ghost use Rattle.matching.specs.Sets.{system};
+ghost use Rattle.characteristic.specs.Characteristic.{starts as startsOf};
+ghost use Rattle.characteristic.specs.Ranged.{Ranged};
 ghost use Rattle.measuring.specs.Window.{series as seriesOf, sums as sumsOf, difference as differenceOf};
-ghost use Rattle.measuring.specs.Characteristic.{starts as startsOf, hasHarmonics};
 ghost use Rattle.measuring.specs.Measuring.{twiceRestraint, currentsOf, readingsOf};
-ghost use Rattle.measuring.specs.Sized.{Sized, Ends, Ranged, Measurable};
-ghost use Rattle.measuring.specs.Bound.{QuietBound};
+ghost use Rattle.measuring.specs.Sized.{Sized, Ends, Measurable};
 use amplitude::Harmonic;
+use characteristic::Currents;
 use setting::Setting;
-
-// The currents of a system, in thousandths of reference current: D, R (twice the restraint), the second and the fifth harmonic.
-pub struct Currents {
-    pub d: u32,
-    pub r: u32,
-    pub h2: u32,
-    pub h5: u32,
-}
 
 // What is measured of a system: its currents, start, blocked.
 pub struct Reading {
@@ -137,41 +130,6 @@ fn system_currents(v: Setting, win: &[i32], y: usize) -> Currents
     }
 }
 
-// The three sections of the characteristic.
-fn starts(v: Setting, c: Currents) -> bool
-    requires { ⌜ (v .basic ≤ 2 * v .third) × Ranged c ⌝ }
-    ensures { λ b. ⌜ b ≡ startsOf v (c .d) (c .r) ⌝ }
-{
-    let p = v.basic as u64;
-    let q = 2 * (v.third as u64);
-    let r = c.r as u64;
-    let d = c.d as u64;
-    if r <= p {
-        return p < d;
-    }
-    if r <= q {
-        return 200 * p + (v.slope1 as u64) * (r - p) < 200 * d;
-    }
-    200 * p + (v.slope1 as u64) * (q - p) + (v.slope2 as u64) * (r - q) < 200 * d
-}
-
-// Whether a system has harmonics.
-fn harmonics(v: Setting, c: Currents) -> bool
-    requires { ⌜ Ranged c ⌝ }
-    ensures { λ b. ⌜ b ≡ hasHarmonics v (c .d) (c .h2) (c .h5) ⌝ }
-{
-    let d = c.d as u64;
-    if v.flags % 2 == 1 {
-        if (v.second as u64) * d < 100 * (c.h2 as u64) {
-            return true;
-        }
-    }
-    if v.flags / 2 % 2 == 1 {
-        return (v.fifth as u64) * d < 100 * (c.h5 as u64);
-    }
-    false
-}
-
 fn or(a: bool, b: bool) -> bool
     ensures { λ r. ⌜ r ≡ (a || b) ⌝ }
 {
@@ -188,7 +146,7 @@ fn system_reading(v: Setting, c: Currents, blocked: bool) -> Reading
         r: c.r,
         h2: c.h2,
         h5: c.h5,
-        start: starts(v, c),
+        start: characteristic::starts(v, c),
         blocked: blocked,
     }
 }
@@ -201,9 +159,9 @@ pub fn measure(v: Setting, win: &[i32]) -> Readings
     let a = system_currents(v, win, 0);
     let b = system_currents(v, win, 1);
     let c = system_currents(v, win, 2);
-    let in_a = harmonics(v, a);
-    let in_b = harmonics(v, b);
-    let in_c = harmonics(v, c);
+    let in_a = characteristic::harmonics(v, a);
+    let in_b = characteristic::harmonics(v, b);
+    let in_c = characteristic::harmonics(v, c);
     let any = if v.flags / 4 % 2 == 1 {
         or(in_a, or(in_b, in_c))
     } else {
@@ -215,8 +173,3 @@ pub fn measure(v: Setting, win: &[i32]) -> Readings
         c: system_reading(v, c, or(in_c, any)),
     }
 }
-
-// A D as small as a healthy bank's starts nothing and counts nowhere: no code, the statement and its proof.
-pub fn quiet_bound()
-    ensures { λ _. ⌜ QuietBound ⌝ }
-{}

@@ -29,8 +29,8 @@ use Rattle.amplitude.proofs.PeakLaws.{peak-small}
 use Rattle.record.specs.declared.Element.{Element}
 use Rattle.record.specs.declared.Window.{Window}
 use Rattle.relay.specs.declared.Relay.{Relay}
+use Rattle.characteristic.specs.Characteristic.{firstSection, secondSection, thirdSection, starts, counts}
 use Rattle.measuring.specs.Window.{at, sums}
-use Rattle.measuring.specs.Characteristic.{firstSection, secondSection, thirdSection, starts, counts}
 use Rattle.measuring.specs.Measuring.{differential, twiceRestraint, start, blocked, readingOf}
 use Rattle.record.specs.Record.{elementOf, elementAfter, clear}
 use Rattle.relay.specs.Record.{fresh, admissible}

@@ -2,8 +2,8 @@
 use mathlib.Core.Path.{_≡_, refl, ap}
 use mathlib.Core.Bool.{true, false}
 use Rattle.block.specs.Refusals.{Outcome, gives}
+use Rattle.characteristic.specs.Characteristic.{counts}
 use Rattle.measuring.specs.declared.Readings.{Readings}
-use Rattle.measuring.specs.Characteristic.{counts}
 use Rattle.measuring.specs.Measuring.{readingOf, readingsOf}
 use Rattle.record.specs.declared.Element.{Element}
 use Rattle.record.specs.declared.Window.{Window}

@@ -24,7 +24,7 @@ use Rattle.relay.specs.declared.ResetAnswer.{ResetAnswer}
 use Rattle.relay.specs.declared.ResetAnswer.the-variants.{Cleared, Declined}
 use Rattle.relay.specs.declared.Restarted.{Restarted}
 use Rattle.relay.specs.declared.Started.{Started}
-use Rattle.measuring.specs.Characteristic.{counts}
+use Rattle.characteristic.specs.Characteristic.{counts}
 use Rattle.measuring.specs.Measuring.{differential, start, blocked, readingOf}
 use Rattle.record.specs.Record.{elementOf, perSystem, elementAfter, clear, placed}
 use Rattle.relay.specs.Record.{fresh, admissible}

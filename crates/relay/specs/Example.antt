@@ -17,7 +17,7 @@ use Rattle.integer.specs.Tests.{eqZ}
 use Rattle.matching.specs.Matching.{operation, operated, matched}
 use Rattle.matching.specs.Sets.{System, sysA, sysB, sysC, seen, matchedAt, numbers}
 use Rattle.amplitude.specs.Amplitude.{t, weightedSum, cycle, amplitude}
-use Rattle.measuring.specs.Characteristic.{starts, hasHarmonics}
+use Rattle.characteristic.specs.Characteristic.{starts, hasHarmonics}
 use Rattle.measuring.specs.Measuring.{twiceRestraint, harmonics, blocked}
 use Rattle.record.specs.Record.{elementOf, elementAfter, placed}
 use Rattle.relay.specs.Record.{fresh, admissible}

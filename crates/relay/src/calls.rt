@@ -5,7 +5,7 @@ ghost use mathlib.Core.Bool.{true, false};
 ghost use Prim.Native.Nat.{_≤_};
 ghost use Rattle.block.specs.Refusals.{gives, declines, numberOf};
 ghost use Rattle.setting.specs.Limits.{fourFactors};
-ghost use Rattle.measuring.specs.Characteristic.{counts as countsOf};
+ghost use Rattle.characteristic.specs.Characteristic.{counts as countsOf};
 ghost use Rattle.measuring.specs.Sized.{Measurable};
 ghost use Rattle.record.specs.Record.{elementAfter};
 ghost use Rattle.relay.specs.Record.{admissible};
@@ -57,25 +57,15 @@ pub fn blank() -> Setting
     }
 }
 
-// Whether a system counts: it starts and is not blocked, or D exceeds the high-set.
-fn counts(v: Setting, m: Reading) -> bool
-    ensures { λ r. ⌜ r ≡ countsOf v (m .d) (m .start) (m .blocked) ⌝ }
-{
-    let above = (v.high as u32) < m.d;
-    if m.blocked {
-        return above;
-    }
-    if m.start {
-        return true;
-    }
-    above
-}
-
 // The counter and the latch of a system after it was measured.
 fn element_now(v: Setting, m: Reading, e: Element) -> Element
     ensures { λ r. ⌜ r ≡ elementAfter (v .confirm) (countsOf v (m .d) (m .start) (m .blocked)) e ⌝ }
 {
-    record::element_after(v.confirm, counts(v, m), e)
+    record::element_after(
+        v.confirm,
+        characteristic::counts(v, m.d, m.start, m.blocked),
+        e,
+    )
 }
 
 // A set filed in a window that is not full yet: the number held, counters cleared.

@@ -9,9 +9,9 @@ use native.Mathlib.Omega.{arith}
 use lib.IntN.{ℤ}
 use Rattle.setting.specs.declared.Setting.{Setting}
 use Rattle.matching.specs.Sets.{System, sysA, sysB, sysC}
-use Rattle.measuring.specs.declared.Currents.{Currents}
+use Rattle.characteristic.specs.declared.Currents.{Currents}
+use Rattle.characteristic.specs.Characteristic.{starts, hasHarmonics}
 use Rattle.measuring.specs.declared.Reading.{Reading}
-use Rattle.measuring.specs.Characteristic.{starts, hasHarmonics}
 use Rattle.measuring.specs.Measuring.{harmonics, blocked, currentsOf, readingOf, readingsOf}
 use Rattle.measuring.proofs.measure.Statement.{statement}
 use Rattle.measuring.proofs.measure.Tie as tie

@@ -1,9 +1,9 @@
--- `relay::calls::counts` meets its contract: blocked, else as it starts, else by the high-set.
+-- `characteristic::counts` meets its contract: blocked, else as it starts, else by the high-set.
 use borrow.Author.Needs.{needs}
-use mathlib.Core.Path.{_≡_, sym, ap, _∙_}
+use mathlib.Core.Path.{_≡_}
 use mathlib.Core.Bool.{Bool, true, false, not, _&&_, _||_, and-false}
-use Rattle.relay.proofs.calls.counts.Statement.{statement}
-use Rattle.relay.proofs.calls.counts.Tie as tie
+use Rattle.characteristic.proofs.counts.Statement.{statement}
+use Rattle.characteristic.proofs.counts.Tie as tie
 
 -- of a start s, a block b and a test of the high-set h
 module _ (s b h : Bool) where
@@ -20,7 +20,7 @@ cast-above : tie.Need-cast-above
 cast-above c = search needs
 
 returns : tie.Need-returns
-returns c = held (c .before .before .before .args .m .start) _ _ (c .if1 .taken)
+returns c = held (c .before .before .args .start) _ _ (c .if1 .taken)
 
 returns-2 : tie.Need-returns-2
 returns-2 c = free _ _ _ (c .before .if1 .left) (c .if2 .taken)

@@ -1,12 +1,13 @@
--- `measuring::harmonics` meets its contract: the branches follow the two parts of the definition, and the products of 16-bit fields and currents fit.
+-- `characteristic::harmonics` meets its contract: the branches follow the two parts of the definition, and the products of 16-bit fields and
+-- currents fit.
 use borrow.Author.Needs.{needs}
 use borrow.Author.Tests.{eq-eqb, ne-eqb, lt-ltb, le-ltb}
 use mathlib.Core.Logic.{⊎-elim}
 use native.Mathlib.Omega.{arith}
-use Rattle.measuring.specs.Characteristic.{hasHarmonics}
-use Rattle.measuring.proofs.Fields.{Narrow, narrow, product-fits}
-use Rattle.measuring.proofs.harmonics.Statement.{statement}
-use Rattle.measuring.proofs.harmonics.Tie as tie
+use Rattle.characteristic.specs.Characteristic.{hasHarmonics}
+use Rattle.characteristic.proofs.Fields.{Narrow, narrow, product-fits}
+use Rattle.characteristic.proofs.harmonics.Statement.{statement}
+use Rattle.characteristic.proofs.harmonics.Tie as tie
 
 cast-d : tie.Need-cast-d
 cast-d c = search needs

@@ -6,8 +6,8 @@ use native.Mathlib.Omega.{arith}
 use lib.Dec.{ltb}
 use borrow.Author.Tests.{le-ltb}
 use Rattle.setting.specs.declared.Setting.{Setting}
-use Rattle.measuring.specs.Characteristic.{starts, counts}
-use Rattle.measuring.specs.Bound.{QuietBound}
+use Rattle.characteristic.specs.Characteristic.{starts, counts}
+use Rattle.characteristic.specs.Bound.{QuietBound}
 
 -- 200·P and anything more is not below 200·D
 module _ (P D : ℕ) (h : D ≤ P) where

@@ -3,7 +3,7 @@ use mathlib.Core.Path.{_≡_}
 use mathlib.Core.Bool.{Bool, false}
 use Prim.Native.Nat.{ℕ, _≤_}
 use Rattle.setting.specs.declared.Setting.{Setting}
-use Rattle.measuring.specs.Characteristic.{starts, counts}
+use Rattle.characteristic.specs.Characteristic.{starts, counts}
 
 -- For every P of at least 100 and H of at least 2,500, a system with a D of at most 91 does not start and does not count, whatever R is and
 -- whether or not it is blocked, that is, for any H2 and H5.

@@ -1,15 +1,15 @@
--- `measuring::starts` meets its contract. The branch that is taken says which of the three sections applies, and the products of 16-bit fields and
--- currents fit.
+-- `characteristic::starts` meets its contract. The branch that is taken says which of the three sections applies, and the products of 16-bit
+-- fields and currents fit.
 use borrow.Author.Needs.{needs}
 use borrow.Author.Tests.{lt-ltb, le-ltb, lt-leb, le-leb}
 use mathlib.Core.Path.{sym}
 use mathlib.Core.Bool.{or-false}
 use Prim.Native.Nat.{_*_, _≤_, _<_}
 use native.Mathlib.Omega.{arith}
-use Rattle.measuring.specs.Characteristic.{starts}
-use Rattle.measuring.proofs.Fields.{Narrow, narrow, product-fits, sum-fits, sum-fits-2}
-use Rattle.measuring.proofs.starts.Statement.{statement}
-use Rattle.measuring.proofs.starts.Tie as tie
+use Rattle.characteristic.specs.Characteristic.{starts}
+use Rattle.characteristic.proofs.Fields.{Narrow, narrow, product-fits, sum-fits, sum-fits-2}
+use Rattle.characteristic.proofs.starts.Statement.{statement}
+use Rattle.characteristic.proofs.starts.Tie as tie
 
 cast-p : tie.Need-cast-p
 cast-p c = search needs

@@ -1,4 +1,4 @@
--- The fields of a setting that the measuring multiplies are numbers of 16 bits. What the machine knows of a setting is a tuple by its fields, in
+-- The fields of a setting that the code multiplies are numbers of 16 bits. What the machine knows of a setting is a tuple by its fields, in
 -- order, of which eight come before these.
 use Prim.Native.Nat.{ℕ, _+_, _*_, _-_, _^_, _≤_, _<_}
 use native.Mathlib.Nat.{mul-le-mul}

@@ -1,0 +1,3 @@
+pub mod Characteristic
+pub mod Ranged
+pub mod Bound
