@@ -1,8 +1,8 @@
 # make run    proves and builds the bench program, and runs it on a fault beyond the bank and then one inside it.
 # make test   every test: the second program's own checks, the files that it makes against those stored, the C calls and the bench program against
-#             it, and then the Rattle gate, which proves each crate, tries each must-fail edit and runs each program.
+#             it, and the Rattle gate, which proves each crate, tries each must-fail edit and runs each program (tests/gate).
 # make fuzz   a million blocks through the C calls against the second program, built with the address and undefined-behaviour sanitizers.
-# make speed  the measuring call against the second program's, at 2, 3 and 4 ends, as a ratio of times in one run.
+# make speed  the measuring call against the second program's, at 2, 3 and 4 ends: the ratio of times in one run, and instructions (valgrind).
 CC = gcc
 CFLAGS = -std=c11 -O2 -Wall -Wextra -Werror
 HOST = target/staticlib/libhost.a
@@ -11,12 +11,13 @@ RECORDS = target/bin/records
 SOURCES = crates.txt $(shell find crates -name '*.rt' -o -name '*.antt')
 SECOND = second/relay.c second/relay.h second/draw.c second/draw.h
 
-.PHONY: run test second stored host bench records gate fuzz speed clean
+.PHONY: run test second stored proved host bench records fuzz speed clean
 
 run: $(BENCH)
 	$(BENCH) < examples/faults.blocks
 
-test: second stored host bench records gate
+test: second stored
+	tests/gate
 
 build/numbers: second/numbers.c
 	@mkdir -p build
@@ -58,6 +59,9 @@ stored: build/numbers build/vectors build/bench
 	build/bench two input | cmp - examples/faults.blocks
 	build/bench two expect | cmp - examples/faults.out
 
+# What is run on the proved code.
+proved: host bench records
+
 # The C calls: the example, 100,000 setting blocks and 10,000 measuring calls against the second program.
 host: build/host build/blocks build/fuzz
 	build/host | cmp - examples/host.out
@@ -78,9 +82,6 @@ records: $(RECORDS) build/calls
 	build/calls expect > build/calls.out
 	build/calls input | $(RECORDS) | cmp - build/calls.out
 
-gate:
-	rt ci
-
 build/fuzz-checked: second/fuzz.c $(SECOND) include/tdp.h $(HOST)
 	@mkdir -p build
 	$(CC) -std=c11 -O1 -g -fsanitize=address,undefined -Iinclude -o $@ $< second/relay.c second/draw.c $(HOST) -lm
@@ -95,6 +96,7 @@ fuzz: build/fuzz-checked
 
 speed: build/speed
 	build/speed
+	tests/instructions
 
 clean:
 	rm -rf build target
