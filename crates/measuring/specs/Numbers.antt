@@ -10,7 +10,7 @@ use Rattle.integer.specs.Nearest.{nearest, floor}
 use Rattle.integer.specs.Root.{rootBy}
 use Rattle.integer.specs.Sum.{sum}
 use Rattle.integer.specs.Lists.{upTo}
-use Rattle.block.specs.Refusals.{Outcome, gives, declines, firstRefusal}
+use Rattle.refusal.specs.Refusals.{Outcome, gives, declines, firstRefusal}
 use Rattle.setting.specs.declared.End.{End}
 use Rattle.setting.specs.declared.Setting.{Setting}
 use Rattle.setting.specs.Values.{fields, factor, factorHigh, factorsLow, valueRows, startRows}

@@ -8,7 +8,7 @@ use native.Mathlib.Omega.{arith}
 use borrow.Author.Tests.{eq-eqb, ne-eqb}
 use lib.IntN.{ℤ}
 use lib.ListN.{length}
-use Rattle.block.specs.Refusals.{Outcome, gives, declines, Row, _when_, firstOf, leaves}
+use Rattle.refusal.specs.Refusals.{Outcome, gives, declines, Row, _when_, firstOf, leaves}
 use Rattle.setting.specs.declared.Setting.{Setting}
 use Rattle.relay.specs.declared.Relay.{Relay}
 use Rattle.record.specs.declared.Window.{Window}

@@ -15,7 +15,7 @@ use Rattle.integer.specs.Tests.{hold, each, Each, none, _&_}
 use Rattle.integer.proofs.Reading.{ints}
 use Rattle.integer.proofs.Laws.{within-≤}
 use Rattle.integer.proofs.TestLaws.{split, hold-of, is-true, each-append, each-drop, each-get, each-test, test-each}
-use Rattle.block.specs.Refusals.{gives, leaves}
+use Rattle.refusal.specs.Refusals.{gives, leaves}
 use Rattle.setting.specs.declared.Setting.{Setting}
 use Rattle.setting.specs.Values.{startable}
 use Rattle.matching.specs.Sets.{System, sysA, sysB, sysC, seen, phases, placeOf, matchedAt, numbers, system}

@@ -9,4 +9,3 @@ pub mod Below
 pub mod Settled
 pub mod Ready
 pub mod Kept
-mod Rows

@@ -1,7 +1,7 @@
 -- An accepted set, once it is filed: the answer and the record of a window that fills, and of one that is full.
 use mathlib.Core.Path.{_≡_, refl, ap}
 use mathlib.Core.Bool.{true, false}
-use Rattle.block.specs.Refusals.{Outcome, gives}
+use Rattle.refusal.specs.Refusals.{Outcome, gives}
 use Rattle.characteristic.specs.Characteristic.{counts}
 use Rattle.measuring.specs.declared.Readings.{Readings}
 use Rattle.measuring.specs.Measuring.{readingOf, readingsOf}

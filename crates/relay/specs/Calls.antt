@@ -7,7 +7,7 @@ use lib.Dec.{leb, ltb, eqb}
 use lib.IntN.{ℤ, pos, natAbs}
 use lib.ListN.{length, drop}
 use Rattle.integer.specs.Tests.{each, eqZ, Each}
-use Rattle.block.specs.Refusals.{numberOf, Outcome, gives, declines, done, Row, _when_, firstOf, firstRefusal, leaves}
+use Rattle.refusal.specs.Refusals.{numberOf, Outcome, gives, declines, done, Row, _when_, firstOf, firstRefusal, leaves}
 use Rattle.setting.specs.declared.End.{End}
 use Rattle.setting.specs.declared.Setting.{Setting}
 use Rattle.setting.specs.Values.{startRows, fields}

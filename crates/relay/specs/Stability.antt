@@ -6,7 +6,7 @@ use mathlib.Core.List.{List, [], _∷_}
 use Prim.Native.Nat.{ℕ, _≤_}
 use lib.Dec.{T}
 use Rattle.integer.specs.Tests.{Each}
-use Rattle.block.specs.Refusals.{Outcome, gives, declines}
+use Rattle.refusal.specs.Refusals.{Outcome, gives, declines}
 use Rattle.setting.specs.declared.Setting.{Setting}
 use Rattle.setting.specs.Values.{startable}
 use Rattle.matching.specs.Sets.{System}

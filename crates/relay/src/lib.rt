@@ -5,10 +5,10 @@ pub mod records;
 pub mod sets;
 pub mod theorems;
 
-use block::Refusal;
 use measuring::Reading;
 use record::Trip;
 use record::Window;
+use refusal::Refusal;
 use setting::Setting;
 use setting::Verdict;
 

@@ -17,7 +17,7 @@ use Rattle.setting.specs.declared.End.{End}
 use Rattle.setting.specs.declared.Setting.{Setting}
 use Rattle.setting.specs.Values.{FieldRule, field, between, endOf, headFields, usedFields, unusedFields, endFields, tailFields, fields, allRight, factor, factors, factorHigh, valueRows, startRows, startable}
 use Rattle.setting.specs.Limits.{Rated, Limits}
-use Rattle.setting.proofs.RowLaws.{none-of}
+use Rattle.refusal.proofs.RowLaws.{none-of}
 use Rattle.setting.proofs.FieldLaws.{allRight-++}
 use Rattle.setting.proofs.FactorLaws.{each-upTo, factor-nonneg}
 

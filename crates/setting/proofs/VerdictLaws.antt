@@ -8,8 +8,8 @@ use native.Mathlib.Omega.{arith}
 use lib.Dec.{T}
 use Rattle.integer.specs.Tests.{Each, none, _&_}
 use Rattle.integer.proofs.TestLaws.{is-true, is-false}
-use Rattle.block.specs.declared.Refusal.{Refusal}
-use Rattle.block.specs.Refusals.{firstRefusal, done}
+use Rattle.refusal.specs.declared.Refusal.{Refusal}
+use Rattle.refusal.specs.Refusals.{firstRefusal, done}
 use Rattle.setting.specs.declared.Setting.{Setting}
 use Rattle.setting.specs.declared.Fault.{Fault}
 use Rattle.setting.specs.declared.Fault.the-variants.{Nowhere, At}
@@ -18,7 +18,7 @@ use Rattle.setting.specs.declared.Verdict.the-variants.{Sound, Unsound}
 use Rattle.setting.specs.Values.{FieldRule, between, fields, factorHigh, factorsLow, valueRows, startRows, startable}
 use Rattle.setting.specs.Search.{firstWrong, sooner, verdictOf}
 use Rattle.setting.specs.Calls.{Wrong, Judges, verdictOutcome, verdictOffsets}
-use Rattle.setting.proofs.RowLaws.{none-gives, gives-none}
+use Rattle.refusal.proofs.RowLaws.{none-gives, gives-none}
 use Rattle.setting.proofs.FieldLaws.{allRight-sooner, sooner-wrong}
 
 -- ---- the verdict with a fault beside those of the fields

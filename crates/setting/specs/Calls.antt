@@ -4,7 +4,7 @@ use mathlib.Core.Bool.{false}
 use mathlib.Core.List.{List, [], List·Memᴰ}
 use Prim.Native.Nat.{ℕ}
 use Rattle.integer.specs.Tests.{Each}
-use Rattle.block.specs.Refusals.{numberOf, Outcome, declines, done, firstRefusal, offsetsOf}
+use Rattle.refusal.specs.Refusals.{numberOf, Outcome, declines, done, firstRefusal, offsetsOf}
 use Rattle.setting.specs.declared.Setting.{Setting}
 use Rattle.setting.specs.declared.Verdict.{Verdict}
 use Rattle.setting.specs.declared.Verdict.the-variants.{Sound, Unsound}

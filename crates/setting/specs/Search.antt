@@ -3,8 +3,8 @@ use mathlib.Core.Bool.{not, cond}
 use mathlib.Core.List.{List, [], _∷_}
 use Prim.Native.Nat.{ℕ}
 use lib.Dec.{leb}
-use Rattle.block.specs.declared.Refusal.{Refusal}
-use Rattle.block.specs.declared.Refusal.the-variants.{Ends, Field, FactorHigh, FactorsLow}
+use Rattle.refusal.specs.declared.Refusal.{Refusal}
+use Rattle.refusal.specs.declared.Refusal.the-variants.{Ends, Field, FactorHigh, FactorsLow}
 use Rattle.setting.specs.declared.Setting.{Setting}
 use Rattle.setting.specs.declared.Fault.{Fault}
 use Rattle.setting.specs.declared.Fault.the-variants.{Nowhere, At}

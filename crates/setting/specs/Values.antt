@@ -9,7 +9,7 @@ use lib.Signed.{leZ}
 use Rattle.integer.specs.Nearest.{nearest}
 use Rattle.integer.specs.Lists.{upTo}
 use Rattle.integer.specs.Tests.{each}
-use Rattle.block.specs.Refusals.{Row, _when_}
+use Rattle.refusal.specs.Refusals.{Row, _when_}
 use Rattle.setting.specs.declared.End.{End}
 use Rattle.setting.specs.declared.Setting.{Setting}
 

@@ -9,7 +9,7 @@ use crate::Setting;
 use crate::Verdict;
 use crate::factors;
 use crate::rules;
-use block::Refusal;
+use refusal::Refusal;
 
 // Refusals 4 to 7 of setting values, with a fault found beside those of the fields.
 pub fn verdict_beside(v: Setting, beside: Fault) -> Verdict

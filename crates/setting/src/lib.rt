@@ -4,7 +4,7 @@ pub mod factors;
 pub mod judging;
 pub mod rules;
 
-use block::Refusal;
+use refusal::Refusal;
 
 // An end: nominal voltage V in 0.1 kV, primary rated current I in A, vector group, zero-sequence filter.
 pub struct End {

@@ -1,6 +1,5 @@
 -- Laws of the zero bytes and of the table's rows, and the cases of the calls, for the proofs of this crate.
 mod SpareLaws
-mod Rows
 mod ReaderCases
 mod WriterCases
 mod LayoutLaws

@@ -6,8 +6,8 @@ use Prim.Native.Nat.{ℕ}
 use lib.ListN.{length}
 use borrow.Author.Tests.{eq-eqb, ne-eqb}
 use Rattle.integer.specs.Tests.{Each}
-use Rattle.block.specs.declared.Refusal.{Refusal}
-use Rattle.block.specs.Refusals.{numberOf, Outcome, gives, declines, offsetsOf}
+use Rattle.refusal.specs.declared.Refusal.{Refusal}
+use Rattle.refusal.specs.Refusals.{numberOf, Outcome, gives, declines, offsetsOf}
 use Rattle.block.specs.Block.{checked}
 use Rattle.setting.specs.declared.Setting.{Setting}
 use Rattle.setting.specs.declared.Verdict.{Verdict}
@@ -20,7 +20,7 @@ use Rattle.setting_block.specs.declared.ReadSetting.{ReadSetting}
 use Rattle.setting_block.specs.declared.ReadSetting.the-variants.{Accepted, Refused}
 use Rattle.setting_block.specs.Layout.{settingAt, marked, spares}
 use Rattle.setting_block.specs.Calls.{blockFields, readRows, outcomeOf, readOffsets, Reads}
-use Rattle.setting_block.proofs.Rows.{byOutcome, firstOf-values}
+use Rattle.refusal.proofs.Outcomes.{byOutcome, firstOf-values}
 
 -- the answer by the verdict on the values
 abbrev pub answer : Setting → Verdict → ReadSetting

@@ -12,13 +12,13 @@ use lib.Seq.{take-at}
 use borrow.Author.Tests.{eq-eqb, le-ltb}
 use Rattle.integer.specs.Tests.{hold, each}
 use Rattle.integer.proofs.TestLaws.{split, pair, is-true, hold-at}
-use Rattle.block.specs.Refusals.{Row, _when_, gives, declines, firstOf, leaves}
+use Rattle.refusal.specs.Refusals.{Row, _when_, gives, declines, firstOf, leaves}
 use Rattle.block.specs.Bytes.{areBytes}
 use Rattle.block.specs.Block.{sumsOf, checked, sealed, placed}
 use Rattle.block.proofs.ByteLaws.{byte-at, checked-is, sealed-checked}
 use Rattle.setting.specs.declared.Setting.{Setting}
 use Rattle.setting.specs.Values.{FieldRule, between, fields, allRight, factorHigh, factorsLow, valueRows, startRows, startable}
-use Rattle.setting.proofs.RowLaws.{noneApplies, none-gives, gives-none}
+use Rattle.refusal.proofs.RowLaws.{noneApplies, none-gives, gives-none}
 use Rattle.setting.proofs.LimitLaws.{startable-is}
 use Rattle.setting_block.specs.Layout.{settingAt, marked, spares, header, blockOf}
 use Rattle.setting_block.specs.Calls.{readRows, writeRows, writeLeaves}

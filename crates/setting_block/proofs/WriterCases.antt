@@ -8,10 +8,10 @@ use lib.ListN.{length, take, drop, replicate, length-append}
 use lib.Seq.{length-take-le, take-at, take-append-add, drop-append-add, drop-drop}
 use borrow.Author.Tests.{lt-ltb, le-ltb}
 use Rattle.integer.specs.Tests.{Each, none}
-use Rattle.block.specs.declared.Refusal.{Refusal}
-use Rattle.block.specs.declared.Written.{Written}
-use Rattle.block.specs.declared.Written.the-variants.{Done, Refused}
-use Rattle.block.specs.Refusals.{numberOf, Row, Outcome, declines, _when_, firstRefusal, writtenOf, offsetsOf, writtenOffsets}
+use Rattle.refusal.specs.declared.Refusal.{Refusal}
+use Rattle.refusal.specs.declared.Written.{Written}
+use Rattle.refusal.specs.declared.Written.the-variants.{Done, Refused}
+use Rattle.refusal.specs.Refusals.{numberOf, Row, Outcome, declines, _when_, firstRefusal, writtenOf, offsetsOf, writtenOffsets}
 use Rattle.block.specs.Block.{sealed, placed}
 use Rattle.setting.specs.declared.Setting.{Setting}
 use Rattle.setting.specs.declared.Verdict.{Verdict}
@@ -20,7 +20,7 @@ use Rattle.setting.specs.Values.{fields, startRows}
 use Rattle.setting.specs.Calls.{Wrong, verdictOutcome, Judges}
 use Rattle.setting_block.specs.Layout.{Laid, header, blockOf}
 use Rattle.setting_block.specs.Calls.{writeRows, Writes}
-use Rattle.setting_block.proofs.Rows.{byOutcome, firstOf-++, leaves-is}
+use Rattle.refusal.proofs.Outcomes.{byOutcome, firstOf-++, leaves-is}
 
 -- two pieces, put one after the other, are one
 infixl 65 _then_

@@ -6,8 +6,8 @@ use Prim.Native.Nat.{ℕ}
 use lib.Dec.{eqb, ltb}
 use lib.ListN.{length}
 use Rattle.integer.specs.Tests.{Each}
-use Rattle.block.specs.declared.Written.{Written}
-use Rattle.block.specs.Refusals.{numberOf, Outcome, gives, declines, Row, _when_, firstOf, firstRefusal, writtenOf, leaves, offsetsOf, writtenOffsets}
+use Rattle.refusal.specs.declared.Written.{Written}
+use Rattle.refusal.specs.Refusals.{numberOf, Outcome, gives, declines, Row, _when_, firstOf, firstRefusal, writtenOf, leaves, offsetsOf, writtenOffsets}
 use Rattle.block.specs.Block.{checked, placed}
 use Rattle.setting.specs.declared.Setting.{Setting}
 use Rattle.setting.specs.Values.{FieldRule, fields, valueRows, startRows}

@@ -4,7 +4,7 @@ use mathlib.Core.List.{List, _++_}
 use Prim.Native.Nat.{ℕ, _≤_}
 use lib.Dec.{T}
 use lib.ListN.{length, take, drop}
-use Rattle.block.specs.Refusals.{gives, done, firstRefusal}
+use Rattle.refusal.specs.Refusals.{gives, done, firstRefusal}
 use Rattle.block.specs.Bytes.{areBytes}
 use Rattle.setting.specs.declared.Setting.{Setting}
 use Rattle.setting_block.specs.Calls.{readOf, writeRows, writeLeaves}

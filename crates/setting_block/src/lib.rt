@@ -3,7 +3,7 @@
 pub mod reader;
 pub mod writer;
 
-use block::Refusal;
+use refusal::Refusal;
 use setting::Setting;
 
 // What reading a block gives.

@@ -9,7 +9,7 @@ ghost use Rattle.setting_block.specs.Layout.{endAt, settingAt, marked as
 ghost use Rattle.setting_block.specs.Calls.{Reads};
 ghost use Rattle.setting.specs.Search.{firstWrong};
 use crate::ReadSetting;
-use block::Refusal;
+use refusal::Refusal;
 use setting::End;
 use setting::Fault;
 use setting::Setting;

@@ -6,7 +6,7 @@ use Rattle.setting.specs.Values.{startRows}
 use Rattle.setting.specs.Calls.{Judges}
 use Rattle.relay.specs.Record.{fresh}
 use Rattle.relay.specs.Calls.{blank}
-use Rattle.relay.proofs.Rows.{leaves-refused, leaves-accepted}
+use Rattle.refusal.proofs.Outcomes.{leaves-refused, leaves-given}
 use Rattle.relay.proofs.Relay.start.Statement.{statement}
 use Rattle.relay.proofs.Relay.start.Tie as tie
 
@@ -29,7 +29,7 @@ returns c =
     let k = subst (λ (r : Verdict). Judges v r) (c .before .before .enum-told .given .1) j in
     record {
       outcome = j .outcome;
-      relay = c .fresh .ensures ∙ ap fresh (c .before .blank .ensures) ∙ sym (leaves-refused (fresh blank) (fresh v) (startRows v) (sym (k .outcome)));
+      relay = c .fresh .ensures ∙ ap fresh (c .before .blank .ensures) ∙ sym (leaves-refused (tt {0}) (fresh blank) (fresh v) (startRows v) (sym (k .outcome)));
       offset = j .offset;
     }
 
@@ -44,7 +44,7 @@ returns-2 c =
     let v = c .before .before .before .before .args .v in
     let j = c .before .before .before .verdict .ensures in
     let k = subst (λ (r : Verdict). Judges v r) (c .before .enum-told2 .given .1) j in
-    record { outcome = j .outcome; relay = c .fresh2 .ensures ∙ sym (leaves-accepted (fresh blank) (fresh v) (startRows v) (sym (k .outcome))); offset = j .offset }
+    record { outcome = j .outcome; relay = c .fresh2 .ensures ∙ sym (leaves-given (tt {0}) (fresh blank) (fresh v) (startRows v) (sym (k .outcome))); offset = j .offset }
 
 pub start-spec : {M : Type 1} → statement M
 start-spec =

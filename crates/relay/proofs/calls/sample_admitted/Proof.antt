@@ -7,7 +7,7 @@ use mathlib.Core.List.{List}
 use Prim.Native.Nat.{_≤_, _<_}
 use native.Mathlib.Omega.{arith}
 use lib.IntN.{ℤ}
-use Rattle.block.specs.Refusals.{gives}
+use Rattle.refusal.specs.Refusals.{gives}
 use Rattle.matching.specs.Sets.{numbers}
 use Rattle.measuring.specs.Sized.{Measurable}
 use Rattle.relay.specs.declared.Relay.{Relay}

@@ -1,9 +1,9 @@
 -- Rows of the table, by what the first that applies gives: with other values, with more rows after them, and what a call leaves.
-use mathlib.Core.Path.{_≡_, refl}
+use mathlib.Core.Path.{_≡_, refl, ap, _∙_}
 use mathlib.Core.Bool.{Bool, true, false, cond}
 use mathlib.Core.List.{List, [], _∷_, _++_}
 use Prim.Native.Nat.{ℕ}
-use Rattle.block.specs.Refusals.{Row, Outcome, gives, declines, firstOf, leaves}
+use Rattle.refusal.specs.Refusals.{Row, Outcome, gives, declines, firstOf, leaves}
 
 -- an outcome by its two cases
 abbrev pub byOutcome : {A B : Type 0} → (ℕ → B) → B → Outcome A → B
@@ -26,3 +26,10 @@ module _ {A : Type 0} (a : A) where
   pub leaves-is : {B : Type 0} (x y : B) (rs : List Row) → leaves rs x y ≡ byOutcome (λ n. x) y (firstOf rs a)
   leaves-is x y [] = refl
   leaves-is x y (r ∷ rs) = rw (leaves-is x y rs) (byOutcome-cond (λ n. x) y (r .applies) (r .number) (firstOf rs a))
+
+  -- what a call leaves where it declines, and where it gives values
+  pub leaves-refused : {B : Type 0} (x y : B) (rs : List Row) {n : ℕ} → firstOf rs a ≡ declines n → leaves rs x y ≡ x
+  leaves-refused x y rs e = leaves-is x y rs ∙ ap (byOutcome (λ n. x) y) e
+
+  pub leaves-given : {B : Type 0} (x y : B) (rs : List Row) {b : A} → firstOf rs a ≡ gives b → leaves rs x y ≡ y
+  leaves-given x y rs e = leaves-is x y rs ∙ ap (byOutcome (λ n. x) y) e

@@ -2,10 +2,10 @@
 use mathlib.Core.Bool.{Bool, true, false, cond}
 use mathlib.Core.List.{List, [], _∷_}
 use Prim.Native.Nat.{ℕ}
-use Rattle.block.specs.declared.Refusal.{Refusal}
-use Rattle.block.specs.declared.Refusal.the-variants.{Length, Check, Mark, Ends, Field, FactorHigh, FactorsLow, Sets, Spare, Reach, Unused, Record, Room, Count}
-use Rattle.block.specs.declared.Written.{Written}
-use Rattle.block.specs.declared.Written.the-variants.{Done, Refused}
+use Rattle.refusal.specs.declared.Refusal.{Refusal}
+use Rattle.refusal.specs.declared.Refusal.the-variants.{Length, Check, Mark, Ends, Field, FactorHigh, FactorsLow, Sets, Spare, Reach, Unused, Record, Room, Count}
+use Rattle.refusal.specs.declared.Written.{Written}
+use Rattle.refusal.specs.declared.Written.the-variants.{Done, Refused}
 
 -- the number of each refusal in the table's first column; that of a field carries its offset beside it
 abbrev pub numberOf : Refusal → ℕ

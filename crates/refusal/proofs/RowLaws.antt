@@ -7,7 +7,7 @@ use native.Mathlib.Omega.{arith}
 use lib.Dec.{T, eqb}
 use Rattle.integer.specs.Tests.{each}
 use Rattle.integer.proofs.TestLaws.{split}
-use Rattle.block.specs.Refusals.{Row, gives, declines, firstOf}
+use Rattle.refusal.specs.Refusals.{Row, gives, declines, firstOf}
 
 -- no row applies
 abbrev pub noneApplies : List Row → Bool
