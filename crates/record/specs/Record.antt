@@ -34,6 +34,10 @@ elementAfter M counts e =
 abbrev pub clear : Element
 clear = record { count = 0; latch = false }
 
+-- the sum of 1, 2, 4 for the systems latched
+abbrev pub latchSum : Trip → ℕ
+latchSum t = cond (t .a .latch) 1 0 + (cond (t .b .latch) 2 0 + cond (t .c .latch) 4 0)
+
 -- ---- refusal 12, in part: fill above 12, a matched number in any place beyond ±800,000, or a counter above M
 
 abbrev pub within800000 : ℤ → Bool

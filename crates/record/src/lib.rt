@@ -1,12 +1,12 @@
 // The parts of the relay record: the window of matched numbers, and the counter and the latch of each system.
 
 ghost use mathlib.Core.Path.{_≡_};
-ghost use mathlib.Core.Bool.{true};
+ghost use mathlib.Core.Bool.{true, cond};
 ghost use mathlib.Core.List.{_++_};
 ghost use Prim.Native.Nat.{_+_, _≤_};
 ghost use lib.ListN.{length, take, drop};
 ghost use Rattle.integer.specs.Tests.{each, hold};
-ghost use Rattle.record.specs.Record.{within800000, windowWithin, countersWithin, placed, counterAfter, elementAfter};
+ghost use Rattle.record.specs.Record.{within800000, windowWithin, countersWithin, placed, counterAfter, elementAfter, latchSum};
 
 // Twelve places of matched numbers: number 12k + 3z + y is that of set k (oldest 0), end z and system y. `fill` places are held.
 pub struct Window {
@@ -148,4 +148,17 @@ pub fn element_after(confirm: u8, counts: bool, e: Element) -> Element
         count: count,
         latch: count == confirm,
     }
+}
+
+fn bit(b: bool, n: u32) -> u32
+    ensures { λ r. ⌜ r ≡ cond b n 0 ⌝ }
+{
+    if b { n } else { 0 }
+}
+
+// The sum of 1, 2, 4 for the systems latched.
+pub fn latched(t: Trip) -> u32
+    ensures { λ n. ⌜ n ≡ latchSum t ⌝ }
+{
+    bit(t.a.latch, 1) + (bit(t.b.latch, 2) + bit(t.c.latch, 4))
 }
