@@ -1,24 +1,36 @@
--- A sample call keeps a record admissible, and its setting.
+-- A fresh record is admissible, and a sample call keeps it so, with its setting.
 use mathlib.Core.Path.{_≡_, refl, ap, _∙_}
 use mathlib.Core.Bool.{Bool, true, false, cond}
 use mathlib.Core.List.{List}
+use native.Mathlib.Omega.{arith}
 use lib.Dec.{T, leb, le→leb}
 use lib.IntN.{ℤ, natAbs}
 use Rattle.integer.specs.Tests.{hold, none, _&_}
 use Rattle.integer.proofs.TestLaws.{hold-at, hold-of, is-true, each-test}
 use Rattle.matching.specs.Sets.{System, sysA, sysB, sysC, numbers}
+use Rattle.setting.specs.declared.Setting.{Setting}
+use Rattle.setting.specs.Values.{startable}
 use Rattle.relay.specs.declared.Relay.{Relay}
-use Rattle.record.specs.Record.{elementOf, perSystem, within800000, windowWithin, countersWithin}
-use Rattle.relay.specs.Record.{admissible}
+use Rattle.record.specs.Record.{elementOf, perSystem, clear, within800000, windowWithin, countersWithin}
+use Rattle.relay.specs.Record.{fresh, admissible}
 use Rattle.relay.specs.Calls.{accepted, windowAfter, elementNow, relayNow, sampleRelay}
 use Rattle.relay.proofs.Admission.{admitted-is}
 use Rattle.relay.proofs.Below.{matched-bound}
 use Rattle.relay.proofs.Cases.{sample-leaves}
-use Rattle.relay.proofs.Holding.{element-≤, reach, sized-of}
+use Rattle.relay.proofs.Taken.{element-≤, reach, sized-of}
 use Rattle.record.proofs.Placed.{each-sized, placed-sized, placed-fill}
 
 is-T : {b : Bool} → b ≡ true → T b
 is-T e = rw e tt
+
+pub fresh-admissible : (v : Setting) → T (startable v) → admissible (fresh v) ≡ true
+unfolding admissible fresh
+fresh-admissible v s =
+    let none-counted : T (leb 0 (v .confirm)) = le→leb 0 (v .confirm) (omega arith) in
+    let counted : hold (countersWithin (v .confirm) (perSystem (λ l. clear))) ≡ true =
+    is-true (hold-of {bs = countersWithin (v .confirm) (perSystem (λ l. clear))} (none-counted & none-counted & none-counted & none)) in
+    let sound : startable v ≡ true = is-true s in
+    rw (sound, counted)
 
 module _ (r : Relay) (xs : List ℤ) (a : admissible r ≡ true) where
   -- the record with an accepted set filed

@@ -1,9 +1,6 @@
--- Laws of the window and of lists of calls, and the theorems over them.
-pub mod FlatLists
-pub mod Filing
+-- Laws of the calls: their cases, what an accepted set is ready for, and that a record stays admissible.
 pub mod Cases
-pub mod Holding
-pub mod Quiet
+pub mod Taken
 pub mod Admission
 pub mod Below
 pub mod Settled

@@ -21,7 +21,7 @@ use Rattle.record.specs.Record.{windowWithin, placed}
 use Rattle.relay.specs.Record.{admissible}
 use Rattle.relay.specs.Calls.{inReach, windowAfter}
 use Rattle.relay.proofs.Admission.{admitted-is}
-use Rattle.relay.proofs.Holding.{reach-of, sized-of, numbers-twelve}
+use Rattle.relay.proofs.Taken.{reach-of, sized-of, numbers-twelve}
 use Rattle.record.proofs.Placed.{each-sized, placed-each}
 use Rattle.relay.proofs.Below.{matched-bound}
 

@@ -1,9 +1,8 @@
-// The relay: the record, its start, sample and reset calls, and the theorems over lists of calls.
+// The relay: the record, and its start, sample and reset calls.
 
 pub mod calls;
 pub mod records;
 pub mod sets;
-pub mod theorems;
 
 use measuring::Reading;
 use record::Trip;

@@ -14,8 +14,8 @@ use Rattle.integer.specs.Tests.{Each, none, _&_}
 use Rattle.integer.proofs.TestLaws.{each-append, each-drop}
 use Rattle.record.specs.declared.Window.{Window}
 use Rattle.record.specs.Record.{placed}
-use Rattle.relay.specs.Lists.{last12, windowOf}
-use Rattle.relay.proofs.FlatLists.{Twelve, flat-append, flat-one, flat-length, flat-drop, drop-replicate}
+use Rattle.stability.specs.Lists.{last12, windowOf}
+use Rattle.stability.proofs.FlatLists.{Twelve, flat-append, flat-one, flat-length, flat-drop, drop-replicate}
 
 -- the last twelve of the sets held and one more
 unfoldable pub push : List (List ℤ) → List ℤ → List (List ℤ)

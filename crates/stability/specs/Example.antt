@@ -20,9 +20,9 @@ use Rattle.amplitude.specs.Amplitude.{t, weightedSum, cycle, amplitude}
 use Rattle.characteristic.specs.Characteristic.{starts, hasHarmonics}
 use Rattle.measuring.specs.Measuring.{twiceRestraint, harmonics, blocked}
 use Rattle.record.specs.Record.{elementOf, elementAfter, placed}
 use Rattle.relay.specs.Record.{fresh, admissible}
 use Rattle.relay.specs.Calls.{sampleRows, relayNow}
-use Rattle.relay.specs.Lists.{Call, sample, run}
+use Rattle.stability.specs.Lists.{Call, sample, run}
 
 -- two ends of group 0 with K 65,536, no filter, no blocking, M 1, P 200, m1 30, H 8,000
 abbrev rated : End

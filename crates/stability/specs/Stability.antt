@@ -12,12 +12,12 @@ use Rattle.setting.specs.Values.{startable}
 use Rattle.matching.specs.Sets.{System}
 use Rattle.matching.specs.Bank.{Healthy}
 use Rattle.amplitude.specs.Peak.{peak}
 use Rattle.relay.specs.declared.Measure.{Measure}
 use Rattle.relay.specs.declared.Relay.{Relay}
 use Rattle.record.specs.Record.{elementOf}
 use Rattle.relay.specs.Record.{fresh}
 use Rattle.relay.specs.Calls.{accepted, Reply, filling, measured, sampleReply, resetReply}
-use Rattle.relay.specs.Lists.{Call, sample, reset, after}
+use Rattle.stability.specs.Lists.{Call, sample, reset, after}
 
 -- each accepted set is that of a healthy bank
 abbrev pub HealthyCall : Setting → Call → Type 0

@@ -1,11 +1,11 @@
--- `relay::theorems::stability`: demand 3, by Quiet.antt and the bounds of the layers below.
+-- `stability::stability`: demand 3, by Quiet.antt and the bounds of the layers below.
 use Rattle.setting.proofs.LimitLaws.{startable-is}
 use Rattle.relay.proofs.Below.{total-bound, matched-bound}
 use Rattle.amplitude.proofs.PeakLaws.{peak-bound}
-use Rattle.relay.specs.Stability.{Stability}
-use Rattle.relay.proofs.Quiet.{stays-fresh}
-use Rattle.relay.proofs.theorems.stability.Statement.{statement}
-use Rattle.relay.proofs.theorems.stability.Tie as tie
+use Rattle.stability.specs.Stability.{Stability}
+use Rattle.stability.proofs.Quiet.{stays-fresh}
+use Rattle.stability.proofs.stability.Statement.{statement}
+use Rattle.stability.proofs.stability.Tie as tie
 
 returns : tie.Need-returns
 unfolding Stability

@@ -1,7 +1,7 @@
-// The theorems over lists of calls: no code, the statements and their proofs.
+// The theorems over lists of sample and reset calls from a fresh relay: no code, the statements and their proofs.
 
-ghost use Rattle.relay.specs.Lists.{WindowFiled, Answered};
-ghost use Rattle.relay.specs.Stability.{Stability};
+ghost use Rattle.stability.specs.Lists.{WindowFiled, Answered};
+ghost use Rattle.stability.specs.Stability.{Stability};
 
 // Demand 2 over the list: the window is that of the last twelve accepted sets, and the answers are those that the definitions give for it.
 pub fn filed()

@@ -28,19 +28,20 @@ use Rattle.amplitude.specs.Peak.{peak, PeakBound}
 use Rattle.amplitude.proofs.PeakLaws.{peak-small}
 use Rattle.record.specs.declared.Element.{Element}
 use Rattle.record.specs.declared.Window.{Window}
 use Rattle.relay.specs.declared.Relay.{Relay}
 use Rattle.characteristic.specs.Characteristic.{firstSection, secondSection, thirdSection, starts, counts}
 use Rattle.measuring.specs.Window.{at, sums}
 use Rattle.measuring.specs.Measuring.{differential, twiceRestraint, start, blocked, readingOf}
 use Rattle.record.specs.Record.{elementOf, elementAfter, clear}
 use Rattle.relay.specs.Record.{fresh, admissible}
 use Rattle.relay.specs.Calls.{accepted, sampleRows, windowAfter, full, counting, elementNow, measureNow, replyNow, relayNow, cleared, sampleReply, resetReply, Reply, filling, measured}
-use Rattle.relay.specs.Lists.{Call, sample, reset, after, filedBy, last12, windowOf}
-use Rattle.relay.specs.Stability.{HealthyCall, Calm, CalmReply, CalmOutcome, Not12, CalmCall, NoLatch, Stays, Stability}
-use Rattle.relay.proofs.FlatLists.{Twelve, flat-at}
-use Rattle.relay.proofs.Filing.{push, push-last, each-push}
+use Rattle.stability.specs.Lists.{Call, sample, reset, after, filedBy, last12, windowOf}
+use Rattle.stability.specs.Stability.{HealthyCall, Calm, CalmReply, CalmOutcome, Not12, CalmCall, NoLatch, Stays, Stability}
+use Rattle.relay.proofs.Taken.{reach, per-system, numbers-twelve}
+use Rattle.stability.proofs.FlatLists.{Twelve, flat-at}
+use Rattle.stability.proofs.Filing.{push, push-last, each-push}
 use Rattle.relay.proofs.Cases.{sample-leaves, sample-gives, sample-declines, reset-leaves, reset-gives}
-use Rattle.relay.proofs.Holding.{Holds, holds-fresh, holds-after, admitted, window-after, reach, per-system, numbers-twelve}
+use Rattle.stability.proofs.Holding.{Holds, holds-fresh, holds-after, admitted, window-after}
 
 -- what is used of a setting on which a relay can be started
 pub record Ground (v : Setting) : Type 0 where
