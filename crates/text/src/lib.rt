@@ -42,14 +42,6 @@ pub fn put_field(buffer: &mut [u8], at: usize, n: u64) -> usize {
     put_number(buffer, after, n)
 }
 
-// Puts a space and a test as 0 or 1.
-pub fn put_flag(buffer: &mut [u8], at: usize, b: bool) -> usize {
-    if b {
-        return put(buffer, at, b" 1");
-    }
-    put(buffer, at, b" 0")
-}
-
 // Writes the first `at` bytes of the buffer to standard output.
 pub fn flush(buffer: &[u8], at: usize) {
     if at <= buffer.len() {

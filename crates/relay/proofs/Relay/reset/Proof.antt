@@ -5,8 +5,6 @@ use mathlib.Core.Path.{_≡_, sym, _∙_}
 use Rattle.relay.specs.Calls.{resetRows, cleared}
 use Rattle.relay.proofs.Relay.reset.Statement.{statement}
 use Rattle.relay.proofs.Relay.reset.Tie as tie
-use Rattle.relay.proofs.Relay.reset.Reads as reads
-use Rattle.relay.proofs.Relay.reset.Lts as lts
 
 admissible-requires : tie.Need-admissible-requires
 admissible-requires c κs = search needs

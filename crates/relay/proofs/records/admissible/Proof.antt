@@ -5,8 +5,6 @@ use mathlib.Core.Path.{_≡_, sym, _∙_}
 use Rattle.relay.proofs.Admission.{unsound, not-within, by-counters}
 use Rattle.relay.proofs.records.admissible.Statement.{statement}
 use Rattle.relay.proofs.records.admissible.Tie as tie
-use Rattle.relay.proofs.records.admissible.Reads as reads
-use Rattle.relay.proofs.records.admissible.Lts as lts
 
 sound-requires : tie.Need-sound-requires
 sound-requires c κs = search needs
