@@ -16,7 +16,7 @@ SECOND = second/relay.c second/relay.h second/draw.c second/draw.h
 run: $(BENCH)
 	$(BENCH) < examples/faults.blocks
 
-test: second stored
+test:
 	tests/gate
 
 build/numbers: second/numbers.c

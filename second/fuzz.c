@@ -1,5 +1,6 @@
 /* Compares the host's two calls with the second program on random pairs of a
- * setting block and a sample block: mostly sound, some damaged. */
+ * setting block and a sample block: mostly sound, some damaged, at more than
+ * one place too. */
 #include "../include/tdp.h"
 #include "draw.h"
 
@@ -111,9 +112,9 @@ static void build(struct draw *d, struct pair *p)
         edge_sample(d, list, sets);
     lay_setting(&s, p->setting);
     write_samples(p->samples, BLOCK_BYTES, 0, list, SET_NUMBERS * sets);
-    if (draw_chance(d, 12))
+    for (unsigned chance = 12; draw_chance(d, chance); chance = 50)
         damage(d, p->setting, &p->setting_length);
-    if (draw_chance(d, 12))
+    for (unsigned chance = 12; draw_chance(d, chance); chance = 50)
         damage(d, p->samples, &p->samples_length);
 }
 
