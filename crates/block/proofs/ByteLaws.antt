@@ -17,7 +17,7 @@ use Rattle.integer.proofs.Reading.{ints}
 use Rattle.integer.proofs.TestLaws.{split, pair, each-append, each-get, each-test, test-each}
 use Rattle.block.specs.Bytes.{u16At, u32At, signed, i16At, bytes16, bytes32, bits, zeros, areBytes}
 use Rattle.block.specs.Block.{sumsFrom, sumsOf, checked, sealed}
-use Rattle.block.proofs.Places.{drop-next}
+use Rattle.integer.proofs.Places.{drop-next}
 
 -- ---- a number is read in a part as it is in the whole
 

@@ -1,4 +1,3 @@
 -- Laws of bytes and of lists, for the proofs of this crate and of those above it.
-pub mod Places
 pub mod Turns
 pub mod ByteLaws

@@ -10,7 +10,7 @@ use lib.Seq.{paste-suc}
 use Rattle.integer.specs.Tests.{each}
 use Rattle.block.specs.declared.Sums.{Sums}
 use Rattle.block.specs.Block.{sumsFrom}
-use Rattle.block.proofs.Places.{drop-next}
+use Rattle.integer.proofs.Places.{drop-next}
 
 -- a loop that returns false at the first element that fails the test t, and true at the end: what is left gives the answer r
 module _ {ℓ} {A : Type ℓ} (t : A → Bool) (s : List A) (i : ℕ) {r : Bool} (inv : each t (drop i s) ≡ r) where

@@ -7,3 +7,5 @@ pub mod HalfUnit
 pub mod RootLaws
 pub mod SumLaws
 pub mod TestLaws
+pub mod Places
+pub mod Fill

@@ -2,7 +2,7 @@
 use mathlib.Core.Path.{_≡_, refl}
 use mathlib.Core.Bool.{Bool, true, false, cond}
 use mathlib.Core.List.{List}
-use Prim.Native.Nat.{ℕ, zero, suc, _+_, _*_, _/_, _%_, _≤_}
+use Prim.Native.Nat.{ℕ, _+_, _*_, _/_, _%_, _≤_}
 use native.Mathlib.Omega.{arith}
 use lib.Dec.{T, leb, ltb, leb→le}
 use borrow.Author.Tests.{ltb-true}
@@ -10,9 +10,10 @@ use lib.IntN.{ℤ, pos, natAbs}
 use lib.ListN.{length}
 use Rattle.integer.specs.Within.{_within_}
 use Rattle.integer.specs.Lists.{upTo}
-use Rattle.integer.specs.Tests.{Each, none, _&_}
+use Rattle.integer.specs.Tests.{Each}
 use Rattle.integer.proofs.Reading.{ints}
 use Rattle.integer.proofs.Laws.{within-≤}
+use Rattle.integer.proofs.Places.{upTo-each}
 use Rattle.integer.proofs.TestLaws.{split, each-get, test-each}
 use Rattle.setting.specs.declared.Setting.{Setting}
 use Rattle.setting.specs.Values.{startable}
@@ -43,11 +44,6 @@ reach v xs t = reach-of v xs (split (inReach xs) (unusedZero v xs) (split (twelv
 abbrev pub Sized : ℤ → Type 0
 Sized x = x within 800000
 
-pub each-upTo : {P : ℤ → Type 0} (n : ℕ) (f : ℕ → ℤ) → ((k : ℕ) → P (f k)) → Each P (upTo n f)
-unfolding upTo
-each-upTo zero f h = none
-each-upTo (suc n) f h = h 0 & each-upTo n (λ k. f (suc k)) (λ k. h (suc k))
-
 pub numbers-twelve : (v : Setting) (xs : List ℤ) → length (numbers v xs) ≡ 12
 unfolding numbers upTo
 numbers-twelve v xs = refl
@@ -55,7 +51,7 @@ numbers-twelve v xs = refl
 module _ (matched-bound : MatchedBound) (v : Setting) (s : T (startable v)) (xs : List ℤ) where
   pub sized-of : InReach v xs → Each Sized (numbers v xs)
   unfolding numbers MatchedBound
-  sized-of r = each-upTo 12 (λ j. placeOf v xs (j / 3) (system (j % 3))) (λ j. place (j / 3) (system (j % 3)))
+  sized-of r = upTo-each 12 (λ j. placeOf v xs (j / 3) (system (j % 3))) (λ j l. place (j / 3) (system (j % 3)))
     where
       by : (z : ℕ) (l : System) (b : Bool) → ltb z (v .ends) ≡ b → cond b (matchedAt v xs z l) (pos 0) within 800000
       by z l true e = within-≤ (matched-bound v s xs r z (ltb-true z (v .ends) e) l) (omega arith)

@@ -14,7 +14,7 @@ use Rattle.integer.specs.Lists.{upTo}
 use Rattle.integer.specs.Tests.{each, Each, none, _&_}
 use Rattle.integer.proofs.TestLaws.{split, each-drop, each-get, each-test, test-each}
 use Rattle.block.specs.Bytes.{u16At, u32At, bytes16, bytes32}
-use Rattle.block.proofs.Places.{getD-upTo, take-upTo, upTo-same}
+use Rattle.integer.proofs.Places.{getD-upTo, take-upTo, upTo-same, upTo-each}
 use Rattle.block.proofs.ByteLaws.{u16-bytes, u32-bytes, bytes-u16, bytes-u32}
 use Rattle.setting.specs.declared.End.{End}
 use Rattle.setting.specs.declared.Setting.{Setting}
@@ -135,11 +135,6 @@ end-fits {v} h z l = by (ltb z (v .ends)) (ltb→lt z (v .ends)) (nltb→le z (v
 
 end-back : (e : End) → Fits e → endAt (endBytes e) 0 ≡ e
 end-back e f = rw (u32-bytes (e .voltage) [] (f .voltage), u32-bytes (e .current) [] (f .current))
-
-upTo-each : {P : ℕ → Type 0} (n : ℕ) (f : ℕ → ℕ) → ((k : ℕ) → k < n → P (f k)) → Each P (upTo n f)
-unfolding upTo
-upTo-each zero f h = none
-upTo-each (suc n) f h = h 0 (omega arith) & upTo-each n (λ k. f (suc k)) (λ k l. h (suc k) (omega arith))
 
 pub header-length : (v : Setting) → length (header v) ≡ 74
 unfolding header

@@ -9,7 +9,7 @@ use lib.Dec.{eqb}
 use lib.ListN.{getD}
 use borrow.Author.Tests.{eq-eqb, ne-eqb}
 use Rattle.integer.specs.Lists.{upTo}
-use Rattle.block.proofs.Places.{upTo-same}
+use Rattle.integer.proofs.Places.{upTo-same}
 use Rattle.setting.specs.declared.Fault.{Fault}
 use Rattle.setting.specs.declared.Fault.the-variants.{Nowhere, At}
 use Rattle.setting.specs.Search.{firstWrong}

@@ -18,7 +18,7 @@ use Rattle.integer.proofs.Laws.{within-is, within-≤}
 use Rattle.integer.proofs.SumLaws.{sum-same, sum-within}
 use Rattle.integer.proofs.TestLaws.{is-true, each-get}
 use Rattle.refusal.specs.Refusals.{Outcome, gives, declines, firstOf}
-use Rattle.block.proofs.Places.{getD-upTo}
+use Rattle.integer.proofs.Places.{getD-upTo}
 use Rattle.setting.specs.declared.Setting.{Setting}
 use Rattle.setting.specs.Values.{startable}
 use Rattle.matching.specs.Sets.{System, sysA, sysB, sysC, index, system, placeOf, matchedAt, numbers, numberAt}

@@ -12,7 +12,7 @@ use Rattle.integer.proofs.Laws.{within--}
 use Rattle.integer.proofs.Machine.{fits, back, back-within}
 use Rattle.matching.specs.Sets.{system}
 use Rattle.measuring.specs.Window.{series, difference}
-use Rattle.measuring.proofs.Fill.{Filled, filled-none, filled-more, filled-all, place}
+use Rattle.integer.proofs.Fill.{Filled, filled-none, filled-more, filled-all, place}
 use Rattle.measuring.proofs.difference.Statement.{statement}
 use Rattle.measuring.proofs.difference.Tie as tie
 

@@ -7,7 +7,7 @@ use mir.Syntax.{w32}
 use Rattle.integer.proofs.Machine.{back-within}
 use Rattle.matching.specs.Sets.{system}
 use Rattle.measuring.specs.Window.{series}
-use Rattle.measuring.proofs.Fill.{Filled, filled-none, filled-more, filled-all}
+use Rattle.integer.proofs.Fill.{Filled, filled-none, filled-more, filled-all}
 use Rattle.measuring.proofs.Places.{index-system}
 use Rattle.measuring.proofs.series.Statement.{statement}
 use Rattle.measuring.proofs.series.Tie as tie

@@ -7,7 +7,7 @@ use mir.Syntax.{w32}
 use Rattle.integer.proofs.Machine.{back-ok}
 use Rattle.matching.specs.Sets.{system}
 use Rattle.measuring.specs.Window.{sums}
-use Rattle.measuring.proofs.Fill.{Filled, filled-none, filled-more, filled-all}
+use Rattle.integer.proofs.Fill.{Filled, filled-none, filled-more, filled-all}
 use Rattle.measuring.proofs.Places.{sums-at}
 use Rattle.measuring.proofs.sums.Statement.{statement}
 use Rattle.measuring.proofs.sums.Tie as tie

@@ -7,7 +7,8 @@ use native.Mathlib.Omega.{arith}
 use lib.ListN.{length, getD, take, drop, length-drop, drop-of-length-le}
 use lib.Seq.{drop-cons, take-all}
 use borrow.Rule.Slice.PartMut.{putMid}
 use Rattle.integer.specs.Lists.{upTo}
+use Rattle.integer.specs.Tests.{Each, none, _&_}
 
 module _ {ℓ} {A : Type ℓ} where
   pub length-upTo : (n : ℕ) (f : ℕ → A) → length (upTo n f) ≡ n
@@ -37,6 +38,12 @@ module _ {ℓ} {A : Type ℓ} where
   -- the rest from i on is its first element and the rest from i + 1 on
   pub drop-next : (s : List A) (i : ℕ) (d : A) → i < length s → drop i s ≡ getD s i d ∷ drop (i + 1) s
   drop-next s i d h = drop-cons s i d h ∙ rw add-one
+
+-- what holds of each element
+pub upTo-each : {A : Type 0} {P : A → Type 0} (n : ℕ) (f : ℕ → A) → ((k : ℕ) → k < n → P (f k)) → Each P (upTo n f)
+unfolding upTo
+upTo-each zero f h = none
+upTo-each (suc n) f h = h 0 (omega arith) & upTo-each n (λ k. f (suc k)) (λ k l. h (suc k) (omega arith))
 
 -- a part from `at` to the end, lent by `&mut` and back: the whole is what stood before it, and then the part
 module _ {A : Type 0} (s : List A) (at : ℕ) where

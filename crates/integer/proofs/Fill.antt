@@ -6,8 +6,8 @@ use native.Mathlib.Omega.{arith}
 use borrow.Author.Count.{below-more}
 use lib.ListN.{length, getD, set, length-set}
 use lib.Seq.{getD-set-same, getD-set-other, take-all}
 use Rattle.integer.specs.Lists.{upTo}
-use Rattle.block.proofs.Places.{getD-upTo, take-upTo, upTo-same}
+use Rattle.integer.proofs.Places.{getD-upTo, take-upTo, upTo-same}
 
 -- of n places, the first k hold f
 pub record Filled {A : Type 0} (d : A) (n : ℕ) (f : ℕ → A) (t : List A) (k : ℕ) : Type 0 where
