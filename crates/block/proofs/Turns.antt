@@ -2,7 +2,8 @@
 use mathlib.Core.Path.{_≡_, sym, ap, _∙_}
 use mathlib.Core.Bool.{Bool, true, false, _&&_, and-false}
 use mathlib.Core.List.{List, [], _∷_, _++_}
-use Prim.Native.Nat.{ℕ, zero, suc, _+_, _<_, _≤_}
+use Prim.Native.Nat.{ℕ, zero, suc, _+_, _%_, _<_, _≤_}
+use native.Mathlib.Omega.{arith}
 use native.Mathlib.Nat.{zero-add}
 use native.Mathlib.Numerals.{add-one}
 use lib.ListN.{length, take, drop, getD, set, drop-of-length-le}
@@ -45,12 +46,30 @@ pub copy-more {ℓ} : {A : Type ℓ} (s d : List A) (i : ℕ) (z : A) → i < le
     → set (take i s ++ drop i d) i (getD s i z) ≡ take (i + 1) s ++ drop (i + 1) d
 copy-more s d i z h k = simp add-one (simp zero-add at (paste-suc d 0 s i z (simp zero-add k) h))
 
--- a loop that adds each byte to the sums: a′ and b′ are the sums after one byte more
-module _ (r : Sums) (s : List ℕ) (i a b : ℕ) (inv : sumsFrom a b (drop i s) ≡ r) where
-  pub sums-more : i < length s → {a′ b′ : ℕ} → a′ ≡ sumsFrom a b (getD s i 0 ∷ []) .a → b′ ≡ sumsFrom a b (getD s i 0 ∷ []) .b → sumsFrom a′ b′ (drop (i + 1) s) ≡ r
-  unfolding sumsFrom
-  sums-more h e f = rw (e, f) (sym (ap (sumsFrom a b) (drop-next s i 0 h)) ∙ inv)
+-- the first n of a list are at most n
+pub take-short : (n : ℕ) (s : List ℕ) → length (take n s) ≤ n
+take-short zero s = omega arith
+take-short (suc n) [] = omega arith
+take-short (suc n) (x ∷ s) = let h = take-short n s in omega arith
 
-  pub sums-done : length s ≤ i → _≡_ {A = Sums} (record { a = a; b = b }) r
+-- the remainder of a sum is that of its terms' remainders
+left-mod : (a x : ℕ) → (a % 255 + x) % 255 ≡ (a + x) % 255
+left-mod a x = omega arith
+
+right-mod : (a x : ℕ) → (a + x % 255) % 255 ≡ (a + x) % 255
+right-mod a x = omega arith
+
+-- a loop that adds each byte to the sums and takes no remainder: the sums from the remainders of a and b over what is left are r
+module _ (r : Sums) (s : List ℕ) (i a b : ℕ) (inv : sumsFrom (a % 255) (b % 255) (drop i s) ≡ r) where
+  pub sums-more : i < length s → {a′ b′ : ℕ} → a′ ≡ a + getD s i 0 → b′ ≡ b + a′ → sumsFrom (a′ % 255) (b′ % 255) (drop (i + 1) s) ≡ r
   unfolding sumsFrom
-  sums-done h = sym (ap (sumsFrom a b) (drop-of-length-le s h)) ∙ inv
+  sums-more h e f =
+      let x = getD s i 0 in
+      let next : sumsFrom ((a % 255 + x) % 255) ((b % 255 + (a % 255 + x) % 255) % 255) (drop (i + 1) s) ≡ r =
+      sym (ap (sumsFrom (a % 255) (b % 255)) (drop-next s i 0 h)) ∙ inv
+      in
+      rw (f, e) (simp (left-mod, right-mod) at next)
+
+  pub sums-done : length s ≤ i → _≡_ {A = Sums} (record { a = a % 255; b = b % 255 }) r
+  unfolding sumsFrom
+  sums-done h = sym (ap (sumsFrom (a % 255) (b % 255)) (drop-of-length-le s h)) ∙ inv

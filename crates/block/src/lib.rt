@@ -1,9 +1,8 @@
 // Blocks of 512 bytes: the check, little-endian numbers, runs of zeros.
 
 ghost use mathlib.Core.Path.{_≡_};
-ghost use mathlib.Core.List.{_∷_, []};
 ghost use Prim.Native.Nat.{_+_, _≤_, _<_, _%_};
-ghost use lib.ListN.{length, take, drop};
+ghost use lib.ListN.{length, take};
 ghost use Rattle.block.specs.Bytes.{u16At, u32At, signed as signedOf, i16At, bytes16, bytes32, bits as bitsOf, zeros as zerosOf};
 ghost use Rattle.block.specs.Block.{sumsOf, checked as checkedOf, sealed, placed};
 
@@ -25,21 +24,22 @@ fn wider(x: u8) -> u32
     x as u32
 }
 
-// The sums of some bytes.
-pub fn check_sums(s: &[u8]) -> Sums
+// The sums of at most 510 bytes, which stay small enough for the remainders to be taken once, at the end.
+fn check_sums(s: &[u8]) -> Sums
+    requires { ⌜ length (now s) ≤ 510 ⌝ }
     ensures { λ r. ⌜ r ≡ sumsOf (now (s .entry)) ⌝ }
 {
-    let mut a: u16 = 0;
-    let mut b: u16 = 0;
+    let mut a: u32 = 0;
+    let mut b: u32 = 0;
     let mut i: usize = 0;
     while i < s.len() {
-        a = (a + wide(s[i])) % 255;
-        b = (b + a) % 255;
+        a += wider(s[i]);
+        b += a;
         i += 1;
     }
     Sums {
-        a: a as u8,
-        b: b as u8,
+        a: (a % 255) as u8,
+        b: (b % 255) as u8,
     }
 }
 

@@ -1,8 +1,8 @@
--- `block::check_sums` meets its contract. The loop's invariant: a and b are below 255, and the sums from them over the bytes from i on are those of all.
--- The measure is what is left of the length.
+-- `block::check_sums` meets its contract. The loop's invariant: the sums from the remainders of a and b over the bytes from i on are those of all, and
+-- a and b are no larger than i bytes make them. The measure is what is left of the length.
 use borrow.Author.Needs.{needs}
 use mathlib.Core.Path.{_≡_}
-use Prim.Native.Nat.{_≤_, _<_, _-_}
+use Prim.Native.Nat.{_*_, _-_, _%_, _≤_}
 use native.Mathlib.Omega.{arith}
 use lib.ListN.{length, drop}
 use Rattle.block.specs.Block.{sumsFrom, sumsOf}
@@ -11,7 +11,7 @@ use Rattle.block.proofs.check_sums.Statement.{statement}
 use Rattle.block.proofs.check_sums.Tie as tie
 
 abbrev Inv-loop : tie.InvT-loop
-Inv-loop s a₀ b₀ i₀ a b i = (i ≤ length s) × (a < 255) × (b < 255) × (sumsFrom a b (drop i s) ≡ sumsOf s)
+Inv-loop s a₀ b₀ i₀ a b i = (i ≤ length s) × (a ≤ 255 * i) × (b ≤ 130050 * i) × (sumsFrom (a % 255) (b % 255) (drop i s) ≡ sumsOf s)
 
 abbrev μ-loop : tie.MeasureT-loop
 μ-loop s a₀ b₀ i₀ a b i = length s - i
@@ -19,11 +19,11 @@ abbrev μ-loop : tie.MeasureT-loop
 loop-holds : tie.Need-loop-holds Inv-loop μ-loop
 loop-holds c = search needs
 
-shared-slice-read-wide : tie.Need-shared-slice-read-wide Inv-loop μ-loop
-shared-slice-read-wide c = search needs
+shared-slice-read-wider : tie.Need-shared-slice-read-wider Inv-loop μ-loop
+shared-slice-read-wider c = search needs
 
-wide-requires : tie.Need-wide-requires Inv-loop μ-loop
-wide-requires c κs = search needs
+wider-requires : tie.Need-wider-requires Inv-loop μ-loop
+wider-requires c κs = search needs
 
 add-a : tie.Need-add-a Inv-loop μ-loop
 add-a c = search needs
@@ -49,8 +49,8 @@ loop-again c = (
 cast-t11 : tie.Need-cast-t11 Inv-loop μ-loop
 cast-t11 c = search needs
 
-cast-t12 : tie.Need-cast-t12 Inv-loop μ-loop
-cast-t12 c = search needs
+cast-t13 : tie.Need-cast-t13 Inv-loop μ-loop
+cast-t13 c = search needs
 
 returns : tie.Need-returns Inv-loop μ-loop
 returns c = sums-done _ _ _ _ _ (c .before .loop .inv .3) (c .loop-test .left)
@@ -62,13 +62,13 @@ check-sums-spec =
     Inv-loop
     μ-loop
     loop-holds
-    shared-slice-read-wide
-    wide-requires
+    shared-slice-read-wider
+    wider-requires
     add-a
     add-b
     add-i
     loop-less
     loop-again
     cast-t11
-    cast-t12
+    cast-t13
     returns)

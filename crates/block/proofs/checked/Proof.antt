@@ -6,6 +6,7 @@ use native.Mathlib.Omega.{arith}
 use lib.ListN.{take}
 use lib.Seq.{length-take-le}
 use Rattle.block.specs.Block.{sumsOf}
+use Rattle.block.proofs.Turns.{take-short}
 use Rattle.block.proofs.checked.Statement.{statement}
 use Rattle.block.proofs.checked.Tie as tie
 
@@ -13,7 +14,7 @@ slice-aggregate-check-sums : tie.Need-slice-aggregate-check-sums
 slice-aggregate-check-sums c = sym (length-take-le _ (c .before .before .args .s .now) (omega arith))
 
 check-sums-requires : tie.Need-check-sums-requires
-check-sums-requires c κs = search needs
+check-sums-requires c κs = take-short 510 (c .before .before .args .s .now)
 
 shared-slice-read-if1 : tie.Need-shared-slice-read-if1
 shared-slice-read-if1 c = search needs
