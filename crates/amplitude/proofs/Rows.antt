@@ -1,14 +1,16 @@
--- The rows of constants: each is within 1,560, and the sum of their products is the one of the definition.
+-- The rows of constants: each is within 1,560, and c and s with them are those of the definition.
 use mathlib.Core.Path.{_≡_, refl}
 use Prim.Native.Nat.{ℕ}
 use native.Mathlib.Omega.{arith}
 use lib.IntN.{ℤ}
 use Rattle.integer.specs.Within.{_within_}
+use Rattle.integer.specs.Nearest.{nearest}
 use Rattle.integer.specs.Sum.{sum}
 use Rattle.integer.specs.Lists.{upTo}
 use Rattle.integer.specs.Tests.{Each, none, _&_}
 use Rattle.integer.proofs.TestLaws.{each-get}
-use Rattle.amplitude.specs.Amplitude.{weightedSum}
+use Rattle.amplitude.specs.declared.Harmonic.{Harmonic}
+use Rattle.amplitude.specs.Amplitude.{order, weightedSum, cycle}
 use Rattle.amplitude.specs.Sized.{row, rowSum, Small}
 use Rattle.amplitude.proofs.Bounds.{t-within}
 
@@ -20,6 +22,11 @@ row-within h from =
 pub row-small : (h from : ℕ) → Small (row h from)
 row-small h from = record { each = each-get (row-within h from) (record { size = omega arith }) }
 
-pub row-sum : (h from : ℕ) (u : ℕ → ℤ) → rowSum (row h from) u ≡ weightedSum h from u
+row-sum : (h from : ℕ) (u : ℕ → ℤ) → rowSum (row h from) u ≡ weightedSum h from u
 unfolding rowSum row weightedSum sum upTo
 row-sum h from u = refl
+
+-- with the row of the harmonic g, which h was told to be
+pub row-cycle : (g : Harmonic) (from : ℕ) (u : ℕ → ℤ) {h : Harmonic} → h ≡ g → nearest (rowSum (row (order g) from) u) 9360 ≡ cycle (order h) from u
+unfolding cycle
+row-cycle g from u told = rw (told, row-sum (order g) from u)

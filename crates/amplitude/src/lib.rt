@@ -1,10 +1,12 @@
 // Amplitudes of one cycle: the sums with the twelve constants, and the root of their squares.
 
 ghost use mathlib.Core.Path.{_≡_};
-ghost use Prim.Native.Nat.{_≤_};
+ghost use Prim.Native.Nat.{_+_, _≤_};
 ghost use Rattle.integer.specs.Nearest.{nearest};
-ghost use Rattle.amplitude.specs.Amplitude.{order, amplitude as amplitudeOf, inOrder};
-ghost use Rattle.amplitude.specs.Sized.{Sized, Small, row, rowSum};
+ghost use Rattle.integer.specs.Root.{root};
+ghost use Rattle.integer.specs.Within.{_within_};
+ghost use Rattle.amplitude.specs.Amplitude.{order, cycle as cycleOf, square, amplitude as amplitudeOf, inOrder};
+ghost use Rattle.amplitude.specs.Sized.{Sized, Small, rowSum};
 ghost use Rattle.amplitude.specs.Peak.{PeakBound};
 
 // The harmonics that are measured: h = 1, 2 and 5.
@@ -12,106 +14,6 @@ pub enum Harmonic {
     First,
     Second,
     Fifth,
-}
-
-// The constants t[hk mod 12] for k = 0 to 11.
-fn cosines(h: Harmonic) -> [i32; 12]
-    ensures { λ r. ⌜ r ≡ row (order h) 0 ⌝ }
-{
-    match h {
-        Harmonic::First => [
-            1560,
-            1351,
-            780,
-            0,
-            -780,
-            -1351,
-            -1560,
-            -1351,
-            -780,
-            0,
-            780,
-            1351,
-        ],
-        Harmonic::Second => [
-            1560,
-            780,
-            -780,
-            -1560,
-            -780,
-            780,
-            1560,
-            780,
-            -780,
-            -1560,
-            -780,
-            780,
-        ],
-        Harmonic::Fifth => [
-            1560,
-            -1351,
-            780,
-            0,
-            -780,
-            1351,
-            -1560,
-            1351,
-            -780,
-            0,
-            780,
-            -1351,
-        ],
-    }
-}
-
-// The constants t[(hk + 9) mod 12].
-fn sines(h: Harmonic) -> [i32; 12]
-    ensures { λ r. ⌜ r ≡ row (order h) 9 ⌝ }
-{
-    match h {
-        Harmonic::First => [
-            0,
-            780,
-            1351,
-            1560,
-            1351,
-            780,
-            0,
-            -780,
-            -1351,
-            -1560,
-            -1351,
-            -780,
-        ],
-        Harmonic::Second => [
-            0,
-            1351,
-            1351,
-            0,
-            -1351,
-            -1351,
-            0,
-            1351,
-            1351,
-            0,
-            -1351,
-            -1351,
-        ],
-        Harmonic::Fifth => [
-            0,
-            780,
-            -1351,
-            1560,
-            -1351,
-            780,
-            0,
-            -780,
-            1351,
-            -1560,
-            1351,
-            -780,
-        ],
-    }
 }
 
 // The sum of weights[k]·u[k].
@@ -136,14 +38,140 @@ fn cycle(u: [i32; 12], weights: [i32; 12]) -> i64
     integer::nearest(weighted_sum(u, weights), 9360)
 }
 
+// c of harmonic h, with the constants t[hk mod 12]. A row for each harmonic, so that the compiler sees the constants.
+fn cosine(u: [i32; 12], h: Harmonic) -> i64
+    requires { ⌜ Sized u ⌝ }
+    ensures { λ r. ⌜ r ≡ cycleOf (order h) 0 (inOrder u) ⌝ }
+{
+    match h {
+        Harmonic::First => cycle(
+            u,
+            [
+                1560,
+                1351,
+                780,
+                0,
+                -780,
+                -1351,
+                -1560,
+                -1351,
+                -780,
+                0,
+                780,
+                1351,
+            ],
+        ),
+        Harmonic::Second => cycle(
+            u,
+            [
+                1560,
+                780,
+                -780,
+                -1560,
+                -780,
+                780,
+                1560,
+                780,
+                -780,
+                -1560,
+                -780,
+                780,
+            ],
+        ),
+        Harmonic::Fifth => cycle(
+            u,
+            [
+                1560,
+                -1351,
+                780,
+                0,
+                -780,
+                1351,
+                -1560,
+                1351,
+                -780,
+                0,
+                780,
+                -1351,
+            ],
+        ),
+    }
+}
+
+// s of harmonic h, with the constants t[(hk + 9) mod 12].
+fn sine(u: [i32; 12], h: Harmonic) -> i64
+    requires { ⌜ Sized u ⌝ }
+    ensures { λ r. ⌜ r ≡ cycleOf (order h) 9 (inOrder u) ⌝ }
+{
+    match h {
+        Harmonic::First => cycle(
+            u,
+            [
+                0,
+                780,
+                1351,
+                1560,
+                1351,
+                780,
+                0,
+                -780,
+                -1351,
+                -1560,
+                -1351,
+                -780,
+            ],
+        ),
+        Harmonic::Second => cycle(
+            u,
+            [
+                0,
+                1351,
+                1351,
+                0,
+                -1351,
+                -1351,
+                0,
+                1351,
+                1351,
+                0,
+                -1351,
+                -1351,
+            ],
+        ),
+        Harmonic::Fifth => cycle(
+            u,
+            [
+                0,
+                780,
+                -1351,
+                1560,
+                -1351,
+                780,
+                0,
+                -780,
+                1351,
+                -1560,
+                1351,
+                -780,
+            ],
+        ),
+    }
+}
+
+// The root of c² + s².
+fn magnitude(c: i64, s: i64) -> u32
+    requires { ⌜ (c within 6400000) × (s within 6400000) ⌝ }
+    ensures { λ r. ⌜ r ≡ root (square c + square s) ⌝ }
+{
+    integer::root((c * c + s * s) as u64) as u32
+}
+
 // The amplitude of harmonic h.
 pub fn amplitude(u: [i32; 12], h: Harmonic) -> u32
     requires { ⌜ Sized u ⌝ }
     ensures { λ r. ⌜ (r ≡ amplitudeOf (order h) (inOrder u)) × (r ≤ 6400000) ⌝ }
 {
-    let c = cycle(u, cosines(h));
-    let s = cycle(u, sines(h));
-    integer::root((c * c + s * s) as u64) as u32
+    magnitude(cosine(u, h), sine(u, h))
 }
 
 // The limits 45, 69 and 91: no code, the statement and its proof.
