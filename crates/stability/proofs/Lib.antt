@@ -3,3 +3,4 @@ mod FlatLists
 mod Filing
 mod Holding
 mod Quiet
+mod Through
