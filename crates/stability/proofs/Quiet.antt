@@ -2,12 +2,12 @@
 -- basic threshold and the high-set, so nothing starts and nothing counts, whatever R, H2, H5 and the blocking are. The invariant of the records
 -- is `Holds` of Holding.antt and `Quiet`: each held set is close, and no latch is set.
 use mathlib.Core.Path.{_≡_, refl, sym, ap, _∙_}
-use mathlib.Core.Bool.{Bool, true, false, not, _&&_, _||_, cond, and-false}
+use mathlib.Core.Bool.{Bool, true, false, not, _&&_, _||_, cond}
 use mathlib.Core.List.{List, [], _∷_, _++_, append-nil}
 use Prim.Native.Nat.{ℕ, _+_, _*_, _-_, _/_, _%_, _≤_, _<_}
 use native.Mathlib.Omega.{arith}
 use lib.Dec.{T, leb, ltb, eqb}
-use borrow.Author.Tests.{le-ltb, lt-ltb, eqb-true}
+use borrow.Author.Tests.{lt-ltb, eqb-true}
 use lib.IntN.{ℤ, pos}
 use lib.ListN.{length, getD}
 use Rattle.integer.specs.Within.{_within_}
@@ -29,7 +29,8 @@ use Rattle.amplitude.proofs.PeakLaws.{peak-small}
 use Rattle.record.specs.declared.Element.{Element}
 use Rattle.record.specs.declared.Window.{Window}
 use Rattle.relay.specs.declared.Relay.{Relay}
-use Rattle.characteristic.specs.Characteristic.{firstSection, secondSection, thirdSection, starts, counts}
+use Rattle.characteristic.specs.Characteristic.{starts, counts}
+use Rattle.characteristic.proofs.Bound.{starts-no, counts-no}
 use Rattle.measuring.specs.Window.{at, sums}
 use Rattle.measuring.specs.Measuring.{differential, twiceRestraint, start, blocked, readingOf}
 use Rattle.record.specs.Record.{elementOf, elementAfter, clear}
@@ -49,21 +50,6 @@ pub record Ground (v : Setting) : Type 0 where
   pub four : v .ends ≤ 4
   pub basic : 100 ≤ v .basic
   pub high : 2500 ≤ v .high
-
--- ---- a D that is at most the basic threshold starts nothing
-
-starts-no : (v : Setting) (D R : ℕ) → D ≤ v .basic → starts v D R ≡ false
-unfolding starts
-starts-no v D R h =
-    simp (
-      le-ltb (v .basic) D h,
-      le-ltb (200 * v .basic + v .slope1 * (R - v .basic)) (200 * D) (omega arith),
-      le-ltb (200 * v .basic + v .slope1 * (2 * v .third - v .basic) + v .slope2 * (R - 2 * v .third)) (200 * D) (omega arith),
-      and-false,
-    )
-
-counts-no : (v : Setting) (D : ℕ) (start blocked : Bool) → start ≡ false → D ≤ v .high → counts v D start blocked ≡ false
-counts-no v D start blocked e h = rw (e, le-ltb (v .high) D h)
 
 -- ---- a set that is filed
 
