@@ -10,6 +10,7 @@ use Rattle.integer.specs.Within.{_within_}
 use Rattle.integer.specs.Lists.{upTo}
 use Rattle.integer.proofs.Reading.{ints, linear}
 use Rattle.integer.proofs.Laws.{ring, within-≤, within-+, within-*, within-self}
+use Rattle.integer.proofs.Fill.{place}
 use Rattle.matching.specs.Matching.{Three, three, operation, sum3, lessZero, operated}
 use Rattle.matching.specs.Bank.{ideal}
 -- the worked numbers, which are checked before what rests on the definitions
@@ -93,21 +94,15 @@ linear-less h = linear-- (linear-times (pos 3) h) linear-sum
 
 -- ---- the group operation
 
--- lists that are equal are so at each place
-pub upTo-at : (n : ℕ) (f g : ℕ → ℤ) → upTo n f ≡ upTo n g → (k : ℕ) → k < n → f k ≡ g k
-unfolding upTo
-upTo-at zero f g e k l = absurd (omega arith)
-upTo-at (suc n) f g e zero l = cc
-upTo-at (suc n) f g e (suc k) l = upTo-at n (λ k. f (suc k)) (λ k. g (suc k)) (cc) k (omega arith)
-
 -- T(g) of the values of three forms is the value of the form whose coefficients are T(g) of theirs: one equation of the lists of twelve
 operation-· : (g : ℕ) → g < 12 → (a b c x : Three) →
     operation g (a · x) (b · x) (c · x) ≡ three (operation g (a .p) (b .p) (c .p)) (operation g (a .n) (b .n) (c .n)) (operation g (a .q) (b .q) (c .q)) · x
 unfolding operation _·_ upTo
 operation-· g l a b c x =
-    upTo-at 12
-    (λ k. operation k (a · x) (b · x) (c · x))
+    place
+    (pos 0)
     (λ k. three (operation k (a .p) (b .p) (c .p)) (operation k (a .n) (b .n) (c .n)) (operation k (a .q) (b .q) (c .q)) · x)
+    {t = upTo 12 (λ k. operation k (a · x) (b · x) (c · x))}
     (simp (minus-value, negated-value))
     g
     l

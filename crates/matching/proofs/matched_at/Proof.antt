@@ -11,24 +11,22 @@ use lib.IntN.{ℤ, pos}
 use lib.ListN.{getD}
 use mir.Syntax.{w16, w64}
 use mir.Val.{toZ, ofZ}
-use Rattle.integer.specs.Lists.{upTo}
 use Rattle.integer.proofs.Machine.{back-within}
+use Rattle.integer.proofs.Fill.{place}
 use Rattle.setting.specs.declared.Setting.{Setting}
 use Rattle.setting.specs.Values.{endOf, factor}
 use Rattle.setting.specs.Limits.{fourFactors}
 use Rattle.setting.proofs.LimitLaws.{startable-is}
 use Rattle.matching.specs.Sets.{sysA, seen, phases, trioOf, matchedAt, trioAt}
 use Rattle.matching.specs.Sized.{Sampled, Accepted}
-use Rattle.matching.proofs.Forms.{upTo-at}
 use Rattle.matching.proofs.Total.{sampled}
 use Rattle.matching.proofs.matched_at.Statement.{statement}
 use Rattle.matching.proofs.matched_at.Tie as tie
 
 -- K of an end in use, among the four
 factor-at : (v : Setting) (z : ℕ) → z < 4 → z < v .ends → getD (fourFactors v) z (pos 0) ≡ factor v z
-unfolding fourFactors upTo
-factor-at v z l h =
-    upTo-at 4 (λ k. getD (fourFactors v) k (pos 0)) (λ k. cond (ltb k (v .ends)) (factor v k) (pos 0)) refl z l ∙ rw (lt-ltb z (v .ends) h)
+unfolding fourFactors
+factor-at v z l h = place (pos 0) (λ k. cond (ltb k (v .ends)) (factor v k) (pos 0)) refl z l ∙ rw (lt-ltb z (v .ends) h)
 
 -- ---- an end in use
 
