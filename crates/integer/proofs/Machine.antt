@@ -1,12 +1,12 @@
 -- Signed machine integers. A signed local holds bits: the machine reads x back from them as `toZ w (ofZ w x)`, which is x where x fits.
 use mathlib.Core.Path.{_≡_, refl}
 use mathlib.Core.Bool.{Bool, true, false}
-use Prim.Native.Nat.{ℕ, suc, suc-le-suc, _/_, _%_, _^_, _≤_, _<_}
+use Prim.Native.Nat.{ℕ, suc, suc-le-suc, _^_, _<_}
 use native.Mathlib.Nat.{le-trans, div-le-self, mod-le}
 use native.Mathlib.Omega.{arith}
 use lib.Dec.{ltb}
 use borrow.Author.Tests.{ltb-true}
-use lib.IntN.{ℤ, pos, negsuc, natAbs}
+use lib.IntN.{ℤ, pos, negsuc}
 use lib.Signed.{mag, quotZ, remZ, shrZ, mag-shr, mag-rem}
 use mir.Syntax.{Width, w8, w16, w32, w64, w128}
 use mir.Val.{SFits, hbits, toZ, ofZ, boolByte}

@@ -1,12 +1,11 @@
 -- `nearest` by its bounds: the law of division rounded down, that only one number has those bounds, and the machine's division.
 -- What other crates may use of `nearest` stands in HalfUnit.antt.
 use mathlib.Core.Path.{_≡_, refl}
-use Prim.Native.Nat.{ℕ, suc, _*_, _/_, _<_, _≤_}
+use Prim.Native.Nat.{ℕ, suc, _*_, _<_}
 use native.Mathlib.Nat.{div-add-mod, mod-lt}
 use native.Mathlib.Omega.{arith}
 use lib.IntN.{ℤ, pos, negsuc, natAbs, _+ℤ_, _*ℤ_, _-ℤ_}
 use lib.Signed.{_≤ℤ_, _<ℤ_, quotZ, remZ}
-use Rattle.integer.specs.Within.{_within_}
 use Rattle.integer.specs.Nearest.{floor, nearest}
 use Rattle.integer.proofs.Reading.{ints, _⇒_}
 use Rattle.integer.proofs.Laws.{cancel-<}

@@ -3,7 +3,7 @@ use mathlib.Core.Path.{_≡_, refl}
 use Prim.Native.Nat.{ℕ, zero, suc, _+_, _*_, _<_}
 use native.Mathlib.Numerals.{add-one}
 use native.Mathlib.Omega.{arith}
-use lib.IntN.{ℤ, pos, natAbs, _+ℤ_, _*ℤ_, _-ℤ_}
+use lib.IntN.{ℤ, natAbs, _+ℤ_, _*ℤ_, _-ℤ_}
 use Rattle.integer.specs.Within.{_within_}
 use Rattle.integer.specs.Sum.{sum}
 use Rattle.integer.proofs.Reading.{ints}
