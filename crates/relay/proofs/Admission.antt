@@ -3,7 +3,6 @@ use mathlib.Core.Path.{_≡_, refl, sym, subst}
 use mathlib.Core.Bool.{Bool, true, false, _&&_}
 use lib.Dec.{T}
 use Rattle.integer.specs.Tests.{hold}
-use Rattle.integer.proofs.TestLaws.{is-true}
 use Rattle.setting.specs.Values.{startable}
 use Rattle.relay.specs.declared.Relay.{Relay}
 use Rattle.record.specs.Record.{windowWithin, countersWithin}

@@ -1,27 +1,26 @@
 -- What an accepted set of an admissible record is ready for: matching, filing and measuring.
-use mathlib.Core.Path.{_≡_, refl}
+use mathlib.Core.Path.{_≡_}
 use mathlib.Core.Bool.{Bool, true}
-use mathlib.Core.List.{List, [], _∷_}
-use Prim.Native.Nat.{ℕ, _*_, _≤_}
+use mathlib.Core.List.{List}
+use Prim.Native.Nat.{_≤_}
 use native.Mathlib.Omega.{arith}
 use lib.Dec.{T, leb→le}
 use lib.IntN.{ℤ}
 use lib.ListN.{length}
-use Rattle.integer.specs.Tests.{hold}
 use Rattle.integer.proofs.TestLaws.{hold-at}
 use Rattle.setting.specs.Values.{startable}
 use Rattle.setting.specs.Limits.{Limits, fourFactors}
 use Rattle.setting.proofs.LimitLaws.{Startable, startable-is}
 use Rattle.matching.specs.Sets.{numbers}
 use Rattle.matching.specs.Sized.{Accepted}
-use Rattle.measuring.specs.Sized.{Sized, Measurable}
+use Rattle.measuring.specs.Sized.{Measurable}
 use Rattle.record.specs.declared.Window.{Window}
 use Rattle.relay.specs.declared.Relay.{Relay}
-use Rattle.record.specs.Record.{windowWithin, placed}
+use Rattle.record.specs.Record.{windowWithin}
 use Rattle.relay.specs.Record.{admissible}
 use Rattle.relay.specs.Calls.{inReach, windowAfter}
 use Rattle.relay.proofs.Admission.{admitted-is}
-use Rattle.relay.proofs.Taken.{reach-of, sized-of, numbers-twelve}
+use Rattle.relay.proofs.Taken.{reach-of, sized-of}
 use Rattle.record.proofs.Placed.{each-sized, placed-each}
 use Rattle.relay.proofs.Below.{matched-bound}
 

@@ -1,5 +1,5 @@
 -- An accepted set, once it is filed: the answer and the record of a window that fills, and of one that is full.
-use mathlib.Core.Path.{_≡_, refl, ap}
+use mathlib.Core.Path.{_≡_}
 use mathlib.Core.Bool.{true, false}
 use Rattle.refusal.specs.Refusals.{Outcome, gives}
 use Rattle.characteristic.specs.Characteristic.{counts}

@@ -2,7 +2,6 @@
 
 ghost use mathlib.Core.Path.{_≡_};
 ghost use mathlib.Core.Bool.{true, false};
-ghost use Prim.Native.Nat.{_≤_};
 ghost use Rattle.refusal.specs.Refusals.{gives, declines, numberOf};
 ghost use Rattle.setting.specs.Limits.{fourFactors};
 ghost use Rattle.characteristic.specs.Characteristic.{counts as countsOf};

@@ -1,9 +1,7 @@
 -- How the code looks for a wrong field: in block order. The calls' promises leave the offset free and do not rest on this.
 use mathlib.Core.Bool.{not, cond}
 use mathlib.Core.List.{List, [], _∷_}
-use Prim.Native.Nat.{ℕ}
 use lib.Dec.{leb}
-use Rattle.refusal.specs.declared.Refusal.{Refusal}
 use Rattle.refusal.specs.declared.Refusal.the-variants.{Ends, Field, FactorHigh, FactorsLow}
 use Rattle.setting.specs.declared.Setting.{Setting}
 use Rattle.setting.specs.declared.Fault.{Fault}

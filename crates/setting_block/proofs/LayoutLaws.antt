@@ -11,7 +11,7 @@ use lib.ListN.{length, getD, take, replicate, length-replicate, getD-replicate, 
 use lib.Seq.{getD-append-add}
 use borrow.Author.Tests.{eq-eqb}
 use Rattle.integer.specs.Lists.{upTo}
-use Rattle.integer.specs.Tests.{each, Each, none, _&_}
+use Rattle.integer.specs.Tests.{each, Each, _&_}
 use Rattle.integer.proofs.TestLaws.{split, each-drop, each-get, each-test, test-each}
 use Rattle.block.specs.Bytes.{u16At, u32At, bytes16, bytes32}
 use Rattle.integer.proofs.Places.{getD-upTo, take-upTo, upTo-same, upTo-each}

@@ -2,11 +2,10 @@
 use mathlib.Core.Path.{_≡_, refl, sym, ap, _∙_}
 use mathlib.Core.List.{List, [], _∷_, _++_, append-assoc, append-nil, flatten}
 use Prim.Native.Nat.{ℕ, zero, suc, _+_, _*_, _-_, _≤_, _<_}
-use native.Mathlib.Nat.{zero-add, add-assoc, add-comm}
 use native.Mathlib.Omega.{arith}
 use lib.IntN.{ℤ, pos}
-use lib.ListN.{length, getD, take, drop, replicate, length-append, length-replicate, List·getD-append}
-use lib.Seq.{take-at, drop-at, drop-append-add, getD-append-add}
+use lib.ListN.{length, getD, drop, replicate, length-append, List·getD-append}
+use lib.Seq.{drop-at, getD-append-add}
 use Rattle.integer.specs.Tests.{Each, none, _&_}
 
 -- twelve numbers

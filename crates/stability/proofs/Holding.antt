@@ -1,31 +1,26 @@
 -- Any list of calls from a fresh relay: its records stay admissible, and the window is that of the last twelve accepted sets. The invariant is
 -- `Holds`: what a record holds, by the list of the sets in its window.
-use mathlib.Core.Path.{_≡_, refl, sym, ap, _∙_}
-use mathlib.Core.Bool.{Bool, true, false, _&&_, cond}
+use mathlib.Core.Path.{_≡_, refl, ap, _∙_}
+use mathlib.Core.Bool.{Bool, true, false, cond}
 use mathlib.Core.List.{List, [], _∷_, _++_, append-assoc, append-nil, flatten}
-use Prim.Native.Nat.{ℕ, zero, suc, _+_, _*_, _-_, _/_, _%_, _≤_, _<_}
+use Prim.Native.Nat.{_*_, _-_, _≤_}
 use native.Mathlib.Omega.{arith}
-use lib.Dec.{T, leb, ltb, eqb, leb→le, le→leb, ltb→lt}
-use borrow.Author.Tests.{ltb-true}
-use lib.IntN.{ℤ, pos, natAbs}
-use lib.ListN.{length, getD, drop, length-append, length-drop}
-use Rattle.integer.specs.Within.{_within_}
-use Rattle.integer.specs.Lists.{upTo}
-use Rattle.integer.specs.Tests.{hold, each, Each, none, _&_}
+use lib.Dec.{T, leb, le→leb}
+use lib.IntN.{ℤ, natAbs}
+use lib.ListN.{length}
+use Rattle.integer.specs.Tests.{hold, Each, none, _&_}
 use Rattle.integer.proofs.Reading.{ints}
-use Rattle.integer.proofs.Laws.{within-≤}
-use Rattle.integer.proofs.TestLaws.{split, hold-of, is-true, each-append, each-drop, each-get, each-test, test-each}
-use Rattle.refusal.specs.Refusals.{gives, leaves}
+use Rattle.integer.proofs.TestLaws.{hold-of, is-true, each-append, each-test}
+use Rattle.refusal.specs.Refusals.{gives}
 use Rattle.setting.specs.declared.Setting.{Setting}
 use Rattle.setting.specs.Values.{startable}
-use Rattle.matching.specs.Sets.{System, sysA, sysB, sysC, seen, phases, placeOf, matchedAt, numbers, system}
-use Rattle.matching.specs.Bank.{InReach, MatchedBound}
-use Rattle.record.specs.declared.Element.{Element}
+use Rattle.matching.specs.Sets.{System, sysA, sysB, sysC, numbers}
+use Rattle.matching.specs.Bank.{MatchedBound}
 use Rattle.record.specs.declared.Window.{Window}
 use Rattle.relay.specs.declared.Relay.{Relay}
-use Rattle.record.specs.Record.{elementOf, perSystem, elementAfter, counterAfter, clear, within800000, windowWithin, countersWithin, placed}
+use Rattle.record.specs.Record.{elementOf, clear, within800000, windowWithin, countersWithin}
 use Rattle.relay.specs.Record.{fresh, admissible}
-use Rattle.relay.specs.Calls.{twelve, inReach, unusedZero, accepted, windowAfter, full, counting, elementNow, relayNow, replyNow, cleared, sampleReply, sampleRelay}
+use Rattle.relay.specs.Calls.{accepted, windowAfter, counting, elementNow, relayNow, replyNow, cleared}
 use Rattle.stability.specs.Lists.{Call, sample, reset, after, run, filedBy, filed, last12, windowOf, WindowFiled, Answered}
 use Rattle.relay.proofs.Taken.{reach, Sized, numbers-twelve, sized-of, per-system, element-≤}
 use Rattle.stability.proofs.FlatLists.{Twelve, each-flat, each-zero}

@@ -1,12 +1,12 @@
 -- Demand 3. A set of a healthy bank is filed with sums over the ends within 13·E. From such a window D is at most 45, 69 or 91, which is below the
 -- basic threshold and the high-set, so nothing starts and nothing counts, whatever R, H2, H5 and the blocking are. The invariant of the records
 -- is `Holds` of Holding.antt and `Quiet`: each held set is close, and no latch is set.
-use mathlib.Core.Path.{_≡_, refl, sym, ap, _∙_}
-use mathlib.Core.Bool.{Bool, true, false, not, _&&_, _||_, cond}
+use mathlib.Core.Path.{_≡_, refl, ap, _∙_}
+use mathlib.Core.Bool.{Bool, true, false, cond}
 use mathlib.Core.List.{List, [], _∷_, _++_, append-nil}
-use Prim.Native.Nat.{ℕ, _+_, _*_, _-_, _/_, _%_, _≤_, _<_}
+use Prim.Native.Nat.{ℕ, _+_, _*_, _/_, _%_, _≤_, _<_}
 use native.Mathlib.Omega.{arith}
-use lib.Dec.{T, leb, ltb, eqb}
+use lib.Dec.{T, eqb}
 use borrow.Author.Tests.{lt-ltb, eqb-true}
 use lib.IntN.{ℤ, pos}
 use lib.ListN.{length, getD}
@@ -16,31 +16,28 @@ use Rattle.integer.specs.Tests.{Each, none, _&_}
 use Rattle.integer.proofs.Reading.{ints}
 use Rattle.integer.proofs.Laws.{within-is, within-≤}
 use Rattle.integer.proofs.SumLaws.{sum-same, sum-within}
-use Rattle.integer.proofs.TestLaws.{is-true, each-get}
-use Rattle.refusal.specs.Refusals.{Outcome, gives, declines, firstOf}
+use Rattle.integer.proofs.TestLaws.{each-get}
 use Rattle.integer.proofs.Places.{getD-upTo}
 use Rattle.setting.specs.declared.Setting.{Setting}
 use Rattle.setting.specs.Values.{startable}
 use Rattle.matching.specs.Sets.{System, sysA, sysB, sysC, index, system, placeOf, matchedAt, numbers, numberAt}
 use Rattle.matching.specs.Bank.{Healthy, total, TotalBound, MatchedBound}
-use Rattle.amplitude.specs.Amplitude.{amplitude}
 use Rattle.amplitude.specs.Peak.{peak, PeakBound}
 use Rattle.amplitude.proofs.PeakLaws.{peak-small}
 use Rattle.record.specs.declared.Element.{Element}
-use Rattle.record.specs.declared.Window.{Window}
 use Rattle.relay.specs.declared.Relay.{Relay}
-use Rattle.characteristic.specs.Characteristic.{starts, counts}
+use Rattle.characteristic.specs.Characteristic.{counts}
 use Rattle.characteristic.proofs.Bound.{starts-no, counts-no}
-use Rattle.measuring.specs.Window.{at, sums}
+use Rattle.measuring.specs.Window.{sums}
 use Rattle.measuring.specs.Measuring.{differential, twiceRestraint, start, blocked, readingOf}
 use Rattle.record.specs.Record.{elementOf, elementAfter, clear}
-use Rattle.relay.specs.Record.{fresh, admissible}
-use Rattle.relay.specs.Calls.{accepted, sampleRows, windowAfter, full, counting, elementNow, measureNow, replyNow, relayNow, cleared, sampleReply, resetReply, Reply, filling, measured}
+use Rattle.relay.specs.Record.{fresh}
+use Rattle.relay.specs.Calls.{accepted, windowAfter, counting, elementNow, measureNow, replyNow, relayNow, cleared, filling, measured}
 use Rattle.stability.specs.Lists.{Call, sample, reset, after, filedBy, last12, windowOf}
-use Rattle.stability.specs.Stability.{HealthyCall, Calm, CalmReply, CalmOutcome, Not12, CalmCall, NoLatch, Stays, Stability}
+use Rattle.stability.specs.Stability.{HealthyCall, Calm, CalmReply, CalmCall, NoLatch, Stays}
 use Rattle.relay.proofs.Taken.{reach, per-system, numbers-twelve}
 use Rattle.stability.proofs.FlatLists.{Twelve, flat-at}
-use Rattle.stability.proofs.Filing.{push, push-last, each-push}
+use Rattle.stability.proofs.Filing.{push-last, each-push}
 use Rattle.relay.proofs.Cases.{sample-leaves, sample-gives, sample-declines, reset-leaves, reset-gives}
 use Rattle.stability.proofs.Holding.{Holds, holds-fresh, holds-after, admitted, window-after}
 

@@ -1,19 +1,19 @@
 -- Lists of calls from a fresh relay, and demand 2 over them (00, demands 2 and 3; 01, "An afternoon with a reviewer").
 use mathlib.Core.Path.{_≡_}
-use mathlib.Core.Bool.{Bool, cond}
+use mathlib.Core.Bool.{cond}
 use mathlib.Core.List.{List, [], _∷_, _++_, flatten}
-use Prim.Native.Nat.{ℕ, _*_, _-_}
-use lib.Dec.{T, ltb}
+use Prim.Native.Nat.{_*_, _-_}
+use lib.Dec.{T}
 use lib.IntN.{ℤ, pos}
 use lib.ListN.{length, drop, replicate}
-use Rattle.refusal.specs.Refusals.{Outcome, gives, declines}
+use Rattle.refusal.specs.Refusals.{gives}
 use Rattle.setting.specs.declared.Setting.{Setting}
 use Rattle.setting.specs.Values.{startable}
 use Rattle.matching.specs.Sets.{numbers}
 use Rattle.record.specs.declared.Window.{Window}
 use Rattle.relay.specs.declared.Relay.{Relay}
 use Rattle.relay.specs.Record.{fresh}
-use Rattle.relay.specs.Calls.{accepted, Reply, replyNow, sampleReply, sampleRelay, resetRelay}
+use Rattle.relay.specs.Calls.{accepted, replyNow, sampleReply, sampleRelay, resetRelay}
 
 -- A sample call with any list of numbers, or a reset.
 pub data Call : Type 0 where

@@ -1,5 +1,5 @@
 -- `record::put` meets its contract. The loop's invariant: the first k numbers stand at their places.
-use Prim.Native.Nat.{ℕ, _≤_, _-_}
+use Prim.Native.Nat.{_≤_, _-_}
 use mathlib.Core.Path.{_≡_, _∙_}
 use lib.ListN.{length}
 use lib.Seq.{paste, paste-zero}

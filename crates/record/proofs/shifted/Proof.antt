@@ -1,5 +1,5 @@
 -- `record::shifted` meets its contract. The loop's invariant: the first k numbers are those from 12 on, the rest as they were.
-use Prim.Native.Nat.{ℕ, _≤_, _-_}
+use Prim.Native.Nat.{_≤_, _-_}
 use mathlib.Core.Path.{_≡_, _∙_}
 use lib.ListN.{length, drop}
 use lib.Seq.{paste, paste-zero}

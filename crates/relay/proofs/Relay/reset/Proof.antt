@@ -1,7 +1,7 @@
 -- `relay::Relay::reset` meets its contract.
 use borrow.Author.Needs.{needs}
 use borrow.Author.Tests.{not-true, not-false}
-use mathlib.Core.Path.{_≡_, sym, _∙_}
+use mathlib.Core.Path.{sym, _∙_}
 use Rattle.relay.specs.Calls.{resetRows, cleared}
 use Rattle.relay.proofs.Relay.reset.Statement.{statement}
 use Rattle.relay.proofs.Relay.reset.Tie as tie

@@ -1,6 +1,6 @@
 -- `relay::Relay::start` meets its contract: a verdict that is a refusal goes with the blank record, the other with the fresh one.
 use borrow.Author.Needs.{needs}
-use mathlib.Core.Path.{_≡_, sym, subst, ap, _∙_}
+use mathlib.Core.Path.{sym, subst, ap, _∙_}
 use Rattle.setting.specs.declared.Verdict.{Verdict}
 use Rattle.setting.specs.Values.{startRows}
 use Rattle.setting.specs.Calls.{Judges}

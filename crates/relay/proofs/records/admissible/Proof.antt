@@ -1,7 +1,7 @@
 -- `relay::records::admissible` meets its contract, part by part (Admission.antt).
 use borrow.Author.Needs.{needs}
 use borrow.Author.Tests.{not-true, not-false}
-use mathlib.Core.Path.{_≡_, sym, _∙_}
+use mathlib.Core.Path.{sym, _∙_}
 use Rattle.relay.proofs.Admission.{unsound, not-within, by-counters}
 use Rattle.relay.proofs.records.admissible.Statement.{statement}
 use Rattle.relay.proofs.records.admissible.Tie as tie

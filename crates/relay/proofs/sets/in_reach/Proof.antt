@@ -4,7 +4,6 @@ use mathlib.Core.Path.{_≡_}
 use Prim.Native.Nat.{_≤_, _-_}
 use lib.ListN.{length, drop}
 use mir.Syntax.{w16}
-use Rattle.integer.specs.Tests.{each}
 use Rattle.block.proofs.Turns.{each-done}
 use Rattle.relay.specs.Calls.{inReach}
 use Rattle.record.proofs.Scans.{below, above, neither}

@@ -1,6 +1,6 @@
 -- `setting::judging::sound` meets its contract: the verdict is `Sound` on startable values, and on no others.
 use borrow.Author.Needs.{needs}
-use mathlib.Core.Path.{_≡_, sym, subst}
+use mathlib.Core.Path.{sym, subst}
 use Rattle.integer.proofs.TestLaws.{is-true}
 use Rattle.setting.specs.declared.Verdict.{Verdict}
 use Rattle.setting.specs.Calls.{Judges}
