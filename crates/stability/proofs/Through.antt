@@ -1,6 +1,6 @@
 -- The set of specs/ThroughFault.antt is that of a healthy bank: the currents in its limbs, and each condition computed.
 use mathlib.Core.Path.{_≡_, refl}
-use mathlib.Core.Bool.{false}
+use mathlib.Core.Bool.{false, true≢false}
 use Prim.Native.Nat.{ℕ, zero, suc, _≤_, _<_}
 use native.Mathlib.Omega.{arith}
 use lib.Dec.{lit≤}
@@ -38,7 +38,7 @@ over-limbs (suc z) h = refl
 
 unfiltered : (z : ℕ) → z < 2 → filtered (endOf bank z) ≡ false → zeroSequence z ≡ pos 0
 unfolding bank
-unfiltered zero h e = cc
+unfiltered zero h e = absurd (true≢false e)
 unfiltered (suc z) h e = refl
 
 near : (z : ℕ) → z < 2 → (l : System)

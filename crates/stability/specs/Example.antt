@@ -1,5 +1,5 @@
--- A relay that trips, beside demand 3: the setting and the sets of document 01's bench run (under "Numbers to meet"), which are not those of a healthy
--- bank, and after which system 1 alone is latched.
+-- A relay that trips, beside demand 3: the setting and the sets of document 01's bench run (under "Numbers to meet"), after which system 1 alone is
+-- latched; so they are not those of a healthy bank.
 use mathlib.Core.Path.{_≡_, refl}
 use mathlib.Core.Bool.{Bool, true, false}
 use mathlib.Core.List.{List, [], _∷_, _++_}
@@ -12,7 +12,7 @@ use Rattle.integer.specs.Nearest.{nearest, floor}
 use Rattle.integer.specs.Root.{rootBy}
 use Rattle.integer.specs.Sum.{sum}
 use Rattle.integer.specs.Lists.{upTo}
-use Rattle.integer.specs.Tests.{eqZ}
+use Rattle.integer.specs.Tests.{eqZ, Each}
 use Rattle.matching.specs.Matching.{operation, operated, matched}
 use Rattle.matching.specs.Sets.{System, sysA, sysB, sysC, seen, matchedAt, numbers}
 use Rattle.amplitude.specs.Amplitude.{t, weightedSum, cycle, amplitude}
@@ -22,6 +22,7 @@ use Rattle.record.specs.Record.{elementOf, elementAfter, placed}
 use Rattle.relay.specs.Record.{fresh, admissible}
 use Rattle.relay.specs.Calls.{sampleRows, relayNow}
 use Rattle.stability.specs.Lists.{Call, sample, run}
+use Rattle.stability.specs.Stability.{HealthyCall}
 
 -- two ends of group 0 with K 65,536, no filter, no blocking, M 1, P 200, m1 30, H 8,000
 abbrev rated : End
@@ -54,9 +55,13 @@ plain =
 pub fault : List Call
 fault = replicate 11 (sample (replicate 12 (pos 0))) ++ (sample (pos 3000 ∷ replicate 11 (pos 0)) ∷ [])
 
-pub latchAfter : System → Bool
+unfoldable pub latchAfter : System → Bool
 latchAfter l = elementOf (run (fresh plain) fault .trip) l .latch
 
 pub fault-trips : startable plain ∷ latchAfter sysA ∷ latchAfter sysB ∷ latchAfter sysC ∷ [] ≡ true ∷ true ∷ false ∷ false ∷ []
 unfolding plain fault latchAfter factor factorHigh factorsLow valueRows fields nearest floor rootBy sum upTo operation operated matched seen matchedAt numbers t weightedSum cycle amplitude twiceRestraint harmonics blocked starts hasHarmonics elementAfter fresh admissible placed sampleRows relayNow eqZ
 fault-trips = refl
+
+-- not each of these sets is that of a healthy bank
+unfoldable pub FaultUnhealthy : Type 0
+FaultUnhealthy = Each (HealthyCall plain) fault → ⊥

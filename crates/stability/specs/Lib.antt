@@ -1,4 +1,4 @@
 pub mod Lists
-pub mod Example
 pub mod Stability
+pub mod Example
 pub mod ThroughFault

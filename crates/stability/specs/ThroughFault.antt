@@ -1,7 +1,6 @@
 -- A healthy bank at a heavy through-fault, beside demand 3: its sets are accepted and healthy, so the demand speaks of them. A bank of groups 0 and 5
 -- carries twenty times reference current on limb A, with five times of zero sequence at the end that filters it out.
 use mathlib.Core.List.{List, [], _∷_, _++_}
-use Prim.Native.Nat.{ℕ}
 use lib.Dec.{T}
 use lib.IntN.{ℤ, pos, negℤ}
 use lib.ListN.{replicate}

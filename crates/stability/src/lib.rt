@@ -2,6 +2,7 @@
 
 ghost use Rattle.stability.specs.Lists.{WindowFiled, Answered};
 ghost use Rattle.stability.specs.Stability.{Stability};
+ghost use Rattle.stability.specs.Example.{FaultUnhealthy};
 ghost use Rattle.stability.specs.ThroughFault.{ThroughFault};
 
 // Demand 2 over the list: the window is that of the last twelve accepted sets, and the answers are those that the definitions give for it.
@@ -14,7 +15,8 @@ pub fn stability()
     ensures { λ _. ⌜ Stability ⌝ }
 {}
 
-// A healthy bank that demand 3 speaks of: its set at a through-fault of twenty times reference current.
-pub fn through_fault()
-    ensures { λ _. ⌜ ThroughFault ⌝ }
+// Demand 3 is not empty: the set of a healthy bank at a through-fault of twenty times reference current, which it speaks of; and a list of sets that
+// trips a relay, which are then not those of a healthy bank.
+pub fn examples()
+    ensures { λ _. ⌜ ThroughFault × FaultUnhealthy ⌝ }
 {}
