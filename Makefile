@@ -1,9 +1,10 @@
-# make run    proves and builds the bench program, and runs it on a fault beyond the bank and then one inside it.
-# make test   every test: the second program's own checks, the files that it makes against those stored, the C calls and the bench program against
-#             it, and the Rattle gate, which proves each crate, tries each must-fail edit and runs each program (tests/gate).
-# make edits  the must-fail edits that the gate leaves out for time.
-# make fuzz   a million blocks through the C calls against the second program, built with the address and undefined-behaviour sanitizers.
-# make speed  the measuring call against the second program's, at 2, 3 and 4 ends: the ratio of times in one run, and instructions (valgrind).
+# make run      proves and builds the bench program, and runs it on a fault beyond the bank and then one inside it.
+# make test     every test: the second program's own checks, the files that it makes against those stored, the C calls and the bench program against
+#               it, and the Rattle gate, which proves each crate, tries each must-fail edit and runs each program (tests/gate).
+# make edits    the must-fail edits that the gate leaves out for time.
+# make mutants  wrong programs drawn by chance from the source, which must be refused as well: N for each crate, by SEED.
+# make fuzz     a million blocks through the C calls against the second program, built with the address and undefined-behaviour sanitizers.
+# make speed    the measuring call against the second program's, at 2, 3 and 4 ends: the ratio of times in one run, and instructions (valgrind).
 CC = gcc
 CFLAGS = -std=c11 -O2 -Wall -Wextra -Werror
 HOST = target/staticlib/libhost.a
@@ -11,8 +12,10 @@ BENCH = target/bin/bench
 RECORDS = target/bin/records
 SOURCES = crates.txt $(shell find crates -name '*.rt' -o -name '*.antt')
 SECOND = second/relay.c second/relay.h second/draw.c second/draw.h
+N = 4
+SEED = 1
 
-.PHONY: run test second stored proved host bench records edits fuzz speed clean
+.PHONY: run test second stored proved host bench records edits mutants fuzz speed clean
 
 run: $(BENCH)
 	$(BENCH) < examples/faults.blocks
@@ -85,6 +88,9 @@ records: $(RECORDS) build/calls
 
 edits:
 	tests/more-edits
+
+mutants:
+	tests/mutants $(N) $(SEED)
 
 build/fuzz-checked: second/fuzz.c $(SECOND) include/tdp.h $(HOST)
 	@mkdir -p build
