@@ -8,6 +8,9 @@ use Rattle.relay.specs.declared.Relay.{Relay}
 use Rattle.record.specs.Record.{windowWithin, countersWithin}
 use Rattle.relay.specs.Record.{admissible}
 
+pub is-T : {b : Bool} → b ≡ true → T b
+is-T e = rw e tt
+
 module _ (r : Relay) where
   pub unsound : startable (r .setting) ≡ false → false ≡ admissible r
   unfolding admissible

@@ -1,6 +1,6 @@
 -- What an accepted set of an admissible record is ready for: matching, filing and measuring.
 use mathlib.Core.Path.{_≡_}
-use mathlib.Core.Bool.{Bool, true}
+use mathlib.Core.Bool.{true}
 use mathlib.Core.List.{List}
 use Prim.Native.Nat.{_≤_}
 use native.Mathlib.Omega.{arith}
@@ -19,13 +19,10 @@ use Rattle.relay.specs.declared.Relay.{Relay}
 use Rattle.record.specs.Record.{windowWithin}
 use Rattle.relay.specs.Record.{admissible}
 use Rattle.relay.specs.Calls.{inReach, windowAfter}
-use Rattle.relay.proofs.Admission.{admitted-is}
+use Rattle.relay.proofs.Admission.{is-T, admitted-is}
 use Rattle.relay.proofs.Taken.{reach-of, sized-of}
 use Rattle.record.proofs.Placed.{each-sized, placed-each}
 use Rattle.relay.proofs.Below.{matched-bound}
-
-is-T : {b : Bool} → b ≡ true → T b
-is-T e = rw e tt
 
 module _ (r : Relay) (xs : List ℤ) (a : admissible r ≡ true) where
   pub startable-now : T (startable (r .setting))

@@ -10,7 +10,7 @@ use Rattle.matching.specs.Sets.{sysA}
 use Rattle.amplitude.proofs.PeakLaws.{peak-bound}
 use Rattle.relay.specs.declared.Relay.{Relay}
 use Rattle.relay.specs.Record.{fresh}
-use Rattle.relay.proofs.Below.{total-bound, matched-bound}
+use Rattle.relay.proofs.Below.{total-bound}
 use Rattle.stability.specs.Lists.{Call, run}
 use Rattle.stability.specs.Stability.{Stability, Stays, NoLatch}
 use Rattle.stability.specs.Example.{plain, fault, latchAfter, fault-trips, FaultUnhealthy}
@@ -20,7 +20,7 @@ pub stability : Stability
 unfolding Stability
 stability v s =
     let g = startable-is s in
-    stays-fresh peak-bound total-bound matched-bound v s
+    stays-fresh peak-bound total-bound v s
     (record { two = g .limits .two; four = g .limits .four; basic = g .basic .least; high = g .high .least })
 
 -- the record after the list is one of those that have no latch

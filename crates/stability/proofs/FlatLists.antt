@@ -47,14 +47,3 @@ pub drop-replicate : (k n : ℕ) → k ≤ n → drop k (replicate n (pos 0)) �
 drop-replicate zero n h = let e : n - 0 ≡ n = omega arith in rw e
 drop-replicate (suc k) zero h = absurd (omega arith)
 drop-replicate (suc k) (suc n) h = let e : suc n - suc k ≡ n - k = omega arith in drop-replicate k n (omega arith) ∙ rw e
-
--- P of each number of each set
-pub each-flat : {P : ℤ → Type 0} {ws : List (List ℤ)} → Each (Each P) ws → Each P (flatten ws)
-unfolding flatten
-each-flat none = none
-each-flat (none & hs) = each-flat hs
-each-flat ((p & h) & hs) = p & each-flat (h & hs)
-
-pub each-zero : {P : ℤ → Type 0} → P (pos 0) → (n : ℕ) → Each P (replicate n (pos 0))
-each-zero p zero = none
-each-zero p (suc n) = p & each-zero p n

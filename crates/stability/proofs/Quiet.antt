@@ -21,7 +21,7 @@ use Rattle.integer.proofs.Places.{getD-upTo}
 use Rattle.setting.specs.declared.Setting.{Setting}
 use Rattle.setting.specs.Values.{startable}
 use Rattle.matching.specs.Sets.{System, sysA, sysB, sysC, index, system, placeOf, matchedAt, numbers, numberAt}
-use Rattle.matching.specs.Bank.{Healthy, total, TotalBound, MatchedBound}
+use Rattle.matching.specs.Bank.{Healthy, total, TotalBound}
 use Rattle.amplitude.specs.Peak.{peak, PeakBound}
 use Rattle.amplitude.proofs.PeakLaws.{peak-small}
 use Rattle.record.specs.declared.Element.{Element}
@@ -39,7 +39,7 @@ use Rattle.relay.proofs.Taken.{reach, per-system, numbers-twelve}
 use Rattle.stability.proofs.FlatLists.{Twelve, flat-at}
 use Rattle.stability.proofs.Filing.{push-last, each-push}
 use Rattle.relay.proofs.Cases.{sample-leaves, sample-gives, sample-declines, reset-leaves, reset-gives}
-use Rattle.stability.proofs.Holding.{Holds, holds-fresh, holds-after, admitted, window-after}
+use Rattle.stability.proofs.Holding.{Holds, holds-fresh, holds-after, window-after}
 
 -- what is used of a setting on which a relay can be started
 pub record Ground (v : Setting) : Type 0 where
@@ -114,7 +114,7 @@ element-quiet : (M : ℕ) (b : Bool) (e : Element) → b ≡ false → e .latch 
 unfolding elementAfter
 element-quiet M b e p q = rw (p, q)
 
-module _ (peak-bound : PeakBound) (total-bound : TotalBound) (matched-bound : MatchedBound) (v : Setting) (s : T (startable v)) (g : Ground v) where
+module _ (peak-bound : PeakBound) (total-bound : TotalBound) (v : Setting) (s : T (startable v)) (g : Ground v) where
   -- the numbers of a healthy set are close
   numbers-close : (xs : List ℤ) → T (accepted v xs) → Healthy v xs → Close v (numbers v xs)
   unfolding total TotalBound
@@ -171,10 +171,10 @@ module _ (peak-bound : PeakBound) (total-bound : TotalBound) (matched-bound : Ma
         let ns = numbers v xs in
         let ws = last12 (done ++ (ns ∷ [])) in
         let t : T (accepted v xs) = rw e tt in
-        let filed : windowAfter r xs ≡ windowOf ws = window-after matched-bound v s h xs ∙ ap windowOf (push-last done ns) in
+        let filed : windowAfter r xs ≡ windowOf ws = window-after h xs ∙ ap windowOf (push-last done ns) in
         let twelves : Each Twelve ws = rw (← (push-last done ns)) (each-push (last12 done) ns (h .twelves) (numbers-twelve v xs)) in
         let close : Each (Close v) ws = rw (← (push-last done ns)) (each-push (last12 done) ns (q .close) (numbers-close xs t hy)) in
-        let adm = admitted s h in
+        let adm = h .ok in
         record {
           quiet =
               record {
@@ -186,7 +186,7 @@ module _ (peak-bound : PeakBound) (total-bound : TotalBound) (matched-bound : Ma
 
     kept-declined : (xs : List ℤ) → accepted v xs ≡ false → Kept (last12 done) r (sample xs)
     kept-declined xs e =
-        let adm = admitted s h in
+        let adm = h .ok in
         let o = sample-declines v r xs adm (h .same) (replyNow r (windowAfter r xs)) e in
         record {
           quiet =
@@ -200,7 +200,7 @@ module _ (peak-bound : PeakBound) (total-bound : TotalBound) (matched-bound : Ma
     kept-reset : Kept (last12 done) r reset
     unfolding cleared
     kept-reset =
-        let adm = admitted s h in
+        let adm = h .ok in
         record {
           quiet =
               record {
@@ -224,8 +224,8 @@ module _ (peak-bound : PeakBound) (total-bound : TotalBound) (matched-bound : Ma
   stays done h q [] hs = q .clear-latches
   stays done {r} h q (c ∷ cs) (hc & hs) =
       let k = kept done h q c hc in
-      (q .clear-latches, (k .answer, stays (done ++ filedBy v c) (holds-after matched-bound v s done h c) (k .quiet) cs hs))
+      (q .clear-latches, (k .answer, stays (done ++ filedBy v c) (holds-after done h c) (k .quiet) cs hs))
 
   pub stays-fresh : (cs : List Call) → Each (HealthyCall v) cs → Stays v (fresh v) cs
   unfolding last12 fresh
-  stays-fresh cs hs = stays [] (holds-fresh v) (record { close = none; clear-latches = per-system (λ x. x .latch ≡ false) (λ l. clear) (λ l. refl) }) cs hs
+  stays-fresh cs hs = stays [] (holds-fresh v s) (record { close = none; clear-latches = per-system (λ x. x .latch ≡ false) (λ l. clear) (λ l. refl) }) cs hs

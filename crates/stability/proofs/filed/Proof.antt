@@ -1,11 +1,10 @@
--- `stability::filed`: demand 2 over the list, by Holding.antt and the bound of matched numbers.
-use Rattle.relay.proofs.Below.{matched-bound}
+-- `stability::filed`: demand 2 over the list, by Holding.antt.
 use Rattle.stability.proofs.Holding.{window-filed, answered}
 use Rattle.stability.proofs.filed.Statement.{statement}
 use Rattle.stability.proofs.filed.Tie as tie
 
 returns : tie.Need-returns
-returns c = (window-filed matched-bound, answered matched-bound)
+returns c = (window-filed, answered)
 
 pub filed-spec : {M : Type 1} → statement M
 filed-spec = tie.close (tie.spec returns)
