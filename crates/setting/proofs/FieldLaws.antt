@@ -79,13 +79,6 @@ allRight-is (f ∷ fs) = rw (allRight-is fs) (nowhere-cond (f .right) (f .offset
 pub allRight-sooner : (fs gs : List FieldRule) → allRight (fs ++ gs) ≡ nowhere (sooner (firstWrong fs) (firstWrong gs))
 allRight-sooner fs gs = rw (allRight-++, allRight-is fs, allRight-is gs) (nowhere-sooner (firstWrong fs) (firstWrong gs))
 
-pub nowhere-yes : {a : Fault} → nowhere a ≡ true → a ≡ Nowhere
-nowhere-yes {a = Nowhere} e = refl
-nowhere-yes {a = At x} e = cc
-
-pub none-wrong : (fs : List FieldRule) → allRight fs ≡ true → firstWrong fs ≡ Nowhere
-none-wrong fs e = nowhere-yes (sym (allRight-is fs) ∙ e)
-
 pub all-right : (fs : List FieldRule) → firstWrong fs ≡ Nowhere → allRight fs ≡ true
 all-right fs e = allRight-is fs ∙ ap nowhere e
 

@@ -2,12 +2,11 @@
 use mathlib.Core.Path.{_≡_, refl, sym}
 use mathlib.Core.Bool.{Bool, true, false}
 use mathlib.Core.List.{List, [], _++_, append-nil}
-use mathlib.Core.Logic.{_↔_}
 use Prim.Native.Nat.{ℕ}
 use native.Mathlib.Omega.{arith}
 use lib.Dec.{T}
 use Rattle.integer.specs.Tests.{Each, none, _&_}
-use Rattle.integer.proofs.TestLaws.{is-true, is-false}
+use Rattle.integer.proofs.TestLaws.{is-false}
 use Rattle.refusal.specs.declared.Refusal.{Refusal}
 use Rattle.refusal.specs.Refusals.{firstRefusal, done}
 use Rattle.setting.specs.declared.Setting.{Setting}
@@ -61,10 +60,3 @@ module _ {v : Setting} where
       let e : firstRefusal (startRows v) ≡ done = none-gives (startRows v) t in
       let z : _≡_ {A = ℕ} 0 1 = cc (j .outcome) in
       omega arith)
-
-pub sound-is : (v : Setting) → verdictOf Nowhere v ≡ Sound ↔ startable v ≡ true
-sound-is v = (λ e. is-true (sound-startable (rw e at (verdict-judges v))), λ e. by (verdictOf Nowhere v) (verdict-judges v) e)
-  where
-    by : (r : Verdict) → Judges v r → startable v ≡ true → r ≡ Sound
-    by Sound j e = refl
-    by (Unsound q) j e = let n = unsound-not j in cc
