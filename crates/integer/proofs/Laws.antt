@@ -1,7 +1,7 @@
 -- Laws of integers: the ring's, the order's under products, and those of a bound on the size.
 use mathlib.Core.Path.{_≡_, refl}
 use Prim.Native.Nat.{ℕ, zero, suc, _+_, _*_, _<_, _≤_}
-use native.Mathlib.Nat.{le-refl, le-trans, mul-le-mul, mul-le-mul-right, le-of-mul-le-mul-left, le-of-mul-le-mul-right, lt-of-mul-lt-mul-right}
+use native.Mathlib.Nat.{le-refl, le-trans, mul-le-mul, le-of-mul-le-mul-left, lt-of-mul-lt-mul-right}
 use native.Mathlib.Omega.{arith}
 use lib.IntN.{ℤ, pos, negsuc, negℤ, natAbs, _+ℤ_, _*ℤ_, _-ℤ_, *ℤ-comm}
 use lib.Signed.{_≤ℤ_, _<ℤ_}
@@ -18,9 +18,6 @@ pub *ℤ-+ℤ : (a b c : ℤ) → a *ℤ (b +ℤ c) ≡ a *ℤ b +ℤ a *ℤ c
 
 pub +ℤ-*ℤ : (a b c : ℤ) → (a +ℤ b) *ℤ c ≡ a *ℤ c +ℤ b *ℤ c
 +ℤ-*ℤ a b c = simp ints (omega arith)
-
-pub -ℤ-*ℤ : (a b c : ℤ) → (a -ℤ b) *ℤ c ≡ a *ℤ c -ℤ b *ℤ c
--ℤ-*ℤ a b c = simp ints (omega arith)
 
 pub *ℤ-left-comm : (a b c : ℤ) → a *ℤ (b *ℤ c) ≡ b *ℤ (a *ℤ c)
 *ℤ-left-comm a b c = simp ints (omega arith)
@@ -49,26 +46,9 @@ pub ruleset literals = (literal-literal, literal-left, literal-front)
 
 -- ---- the order under products
 
-pub *-nonneg : (x y : ℤ) → pos 0 ≤ℤ x → pos 0 ≤ℤ y → pos 0 ≤ℤ (x *ℤ y)
-*-nonneg (pos a) (pos b) = simp ints (omega arith)
-*-nonneg (pos a) (negsuc b) = simp ints (omega arith)
-*-nonneg (negsuc a) y = simp ints (omega arith)
-
-pub *-mono : (d x y : ℤ) → pos 0 ≤ℤ d → x ≤ℤ y → (x *ℤ d) ≤ℤ (y *ℤ d)
-*-mono (pos d) x y = simp ints (λ p h. omega (arith, mul-le-mul-right d h))
-*-mono (negsuc d) x y = simp ints (omega arith)
-
-pub cancel-≤ : (d x y : ℤ) → pos 0 <ℤ d → (x *ℤ d) ≤ℤ (y *ℤ d) → x ≤ℤ y
-cancel-≤ (pos d) x y = simp ints (λ p h. le-of-mul-le-mul-right {k = d} (omega arith) (omega arith))
-cancel-≤ (negsuc d) x y = simp ints (omega arith)
-
 pub cancel-< : (d x y : ℤ) → pos 0 ≤ℤ d → (x *ℤ d) <ℤ (y *ℤ d) → x <ℤ y
 cancel-< (pos d) x y = simp ints (λ p h. lt-of-mul-lt-mul-right d (omega arith))
 cancel-< (negsuc d) x y = simp ints (omega arith)
-
--- |e d| ≤ k d
-pub cancel-within : (d e : ℤ) (k : ℕ) → pos 0 <ℤ d → (e *ℤ d) ≤ℤ (pos k *ℤ d) → (negℤ e *ℤ d) ≤ℤ (pos k *ℤ d) → e within k
-cancel-within d e k p h l = cancel-≤ d e (pos k) p h ⇒ cancel-≤ d (negℤ e) (pos k) p l ⇒ simp ints (omega arith)
 
 -- ---- absolute values
 
@@ -89,9 +69,6 @@ within-self x = record { size = le-refl (natAbs x) }
 module _ {x : ℤ} {m : ℕ} (h : x within m) where
   pub within-≤ : {n : ℕ} → m ≤ n → x within n
   within-≤ k = record { size = le-trans (h .size) k }
-
-  pub within-neg : negℤ x within m
-  within-neg = h ⇒ simp ints (omega arith)
 
   module _ {y : ℤ} {n : ℕ} (k : y within n) where
     pub within-+ : (x +ℤ y) within (m + n)
