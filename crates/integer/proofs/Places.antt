@@ -2,6 +2,7 @@
 use mathlib.Core.Path.{_≡_, refl, ap, _∙_}
 use mathlib.Core.List.{List, [], _∷_, _++_, append-nil}
 use Prim.Native.Nat.{ℕ, zero, suc, _+_, _-_, _<_, _≤_}
+use native.Mathlib.Nat.{zero-add, suc-add}
 use native.Mathlib.Numerals.{add-one}
 use native.Mathlib.Omega.{arith}
 use lib.ListN.{length, getD, take, drop, length-drop, drop-of-length-le}
@@ -28,6 +29,12 @@ module _ {ℓ} {A : Type ℓ} where
   take-upTo zero s d h = refl
   take-upTo (suc n) [] d h = absurd (omega arith)
   take-upTo (suc n) (x ∷ s) d h = ap (λ (l : List A). x ∷ l) (take-upTo n s d (omega arith))
+
+  -- the first n, and then m more
+  pub upTo-add : (n m : ℕ) (f : ℕ → A) → upTo (n + m) f ≡ upTo n f ++ upTo m (λ k. f (n + k))
+  unfolding upTo
+  upTo-add zero m f = simp zero-add
+  upTo-add (suc n) m f = simp suc-add (ap (λ (t : List A). f 0 ∷ t) (upTo-add n m (λ k. f (suc k))))
 
   -- lists of equal elements
   pub upTo-same : (n : ℕ) (f g : ℕ → A) → ((k : ℕ) → k < n → f k ≡ g k) → upTo n f ≡ upTo n g

@@ -1,6 +1,6 @@
 -- From a test that computes to the fact at each place, and back.
-use mathlib.Core.Path.{_≡_, refl}
-use mathlib.Core.Bool.{Bool, true, false, cond, _&&_}
+use mathlib.Core.Path.{_≡_, refl, sym}
+use mathlib.Core.Bool.{Bool, true, false, cond, _&&_, and-assoc}
 use mathlib.Core.List.{List, [], _∷_, _++_}
 use Prim.Native.Nat.{ℕ, zero, suc, _<_}
 use native.Mathlib.Omega.{arith}
@@ -54,6 +54,10 @@ every-at (suc n) t h (suc k) l = every-at n (λ k. t (suc k)) (split (t zero) (e
 pub every-of : (n : ℕ) (t : ℕ → Bool) → ((k : ℕ) → k < n → T (t k)) → T (every n t)
 every-of zero t h = tt
 every-of (suc n) t h = pair (t zero) (every n (λ k. t (suc k))) (h zero (omega arith)) (every-of n (λ k. t (suc k)) (λ k l. h (suc k) (omega arith)))
+
+pub each-++ : {A : Type 0} (t : A → Bool) (l m : List A) → each t (l ++ m) ≡ (each t l && each t m)
+each-++ t [] m = refl
+each-++ t (a ∷ l) m = rw (each-++ t l m) (sym (and-assoc (t a) (each t l) (each t m)))
 
 -- ---- what holds of each element
 

@@ -1,11 +1,12 @@
 -- The search for a field outside its rule: what it finds in joined lists, that it finds none where all are right, and that what it finds is a field of the list.
-use mathlib.Core.Path.{_≡_, refl, sym, ap, _∙_}
+use mathlib.Core.Path.{_≡_, refl, ap, _∙_}
 use mathlib.Core.Bool.{Bool, true, false, cond, _&&_}
 use mathlib.Core.List.{List, [], _∷_, _++_, List·Memᴰ·head, List·Memᴰ·tail, Memᴰ·append-left, Memᴰ·append-right}
 use mathlib.Core.Logic.{_⊎_, inl, inr, ⊎-elim}
 use Prim.Native.Nat.{ℕ, _+_, _*_}
 use native.Mathlib.Omega.{arith}
 use lib.Dec.{leb}
+use Rattle.integer.proofs.TestLaws.{each-++}
 use Rattle.setting.specs.declared.Fault.{Fault}
 use Rattle.setting.specs.declared.Fault.the-variants.{Nowhere, At}
 use Rattle.setting.specs.declared.Setting.{Setting}
@@ -64,13 +65,8 @@ nowhere-sooner (At x) (At y) = by (leb x y)
     by true = refl
     by false = refl
 
-&&-assoc : (a b c : Bool) → ((a && b) && c) ≡ (a && (b && c))
-&&-assoc true b c = refl
-&&-assoc false b c = refl
-
 pub allRight-++ : (fs gs : List FieldRule) → allRight (fs ++ gs) ≡ (allRight fs && allRight gs)
-allRight-++ [] gs = refl
-allRight-++ (f ∷ fs) gs = rw (allRight-++ fs gs) (sym (&&-assoc (f .right) (allRight fs) (allRight gs)))
+allRight-++ fs gs = each-++ (λ f. f .right) fs gs
 
 pub allRight-is : (fs : List FieldRule) → allRight fs ≡ nowhere (firstWrong fs)
 allRight-is [] = refl

@@ -4,7 +4,7 @@ use mathlib.Core.Path.{_≡_, refl, sym, ap, _∙_}
 use mathlib.Core.Bool.{Bool, true, false, not, _&&_}
 use mathlib.Core.List.{List, [], _∷_, _++_, map}
 use Prim.Native.Nat.{ℕ, zero, suc, _+_, _<_, _≤_}
-use native.Mathlib.Nat.{zero-add, add-zero, suc-add, add-assoc}
+use native.Mathlib.Nat.{zero-add, add-zero, add-assoc}
 use native.Mathlib.Omega.{arith}
 use lib.Dec.{T, eqb, ltb, eqb→eq, ltb→lt, nltb→le}
 use lib.ListN.{length, getD, take, replicate, length-replicate, getD-replicate, List·getD-append}
@@ -14,7 +14,7 @@ use Rattle.integer.specs.Lists.{upTo}
 use Rattle.integer.specs.Tests.{each, Each, _&_}
 use Rattle.integer.proofs.TestLaws.{split, each-drop, each-get, each-test, test-each}
 use Rattle.block.specs.Bytes.{u16At, u32At, bytes16, bytes32}
-use Rattle.integer.proofs.Places.{getD-upTo, take-upTo, upTo-same, upTo-each}
+use Rattle.integer.proofs.Places.{getD-upTo, take-upTo, upTo-add, upTo-same, upTo-each}
 use Rattle.block.proofs.ByteLaws.{u16-bytes, u32-bytes, bytes-u16, bytes-u32}
 use Rattle.setting.specs.declared.End.{End}
 use Rattle.setting.specs.declared.Setting.{Setting}
@@ -49,12 +49,6 @@ upTo-zeros : (n : ℕ) → upTo {A = ℕ} n (λ k. 0) ≡ replicate n 0
 unfolding upTo
 upTo-zeros zero = refl
 upTo-zeros (suc n) = ap (λ (t : List ℕ). 0 ∷ t) (upTo-zeros n)
-
--- the first n, and then m more
-upTo-add : (n m : ℕ) (f : ℕ → ℕ) → upTo (n + m) f ≡ upTo n f ++ upTo m (λ k. f (n + k))
-unfolding upTo
-upTo-add zero m f = simp zero-add
-upTo-add (suc n) m f = simp suc-add (ap (λ (t : List ℕ). f 0 ∷ t) (upTo-add n m (λ k. f (suc k))))
 
 -- p is the n bytes of s from a place on
 record Part (s : List ℕ) (at n : ℕ) (p : List ℕ) : Type 0 where

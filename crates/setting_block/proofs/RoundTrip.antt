@@ -2,7 +2,7 @@
 -- the block of these values is then its first 510 bytes with their check, the block itself.
 -- The writer accepts startable values: their block has all of that, and holds these values.
 use mathlib.Core.Path.{_≡_, refl, sym, ap, _∙_}
-use mathlib.Core.Bool.{Bool, true, false, not, cond, _&&_, and-assoc, Bool·not-not}
+use mathlib.Core.Bool.{Bool, true, false, not, _&&_, Bool·not-not}
 use mathlib.Core.List.{List, [], _∷_, _++_, append-assoc}
 use Prim.Native.Nat.{ℕ}
 use native.Mathlib.Omega.{arith}
@@ -10,43 +10,22 @@ use lib.Dec.{T, eqb, ltb, eqb→eq}
 use lib.ListN.{length, take, drop, replicate, length-append}
 use lib.Seq.{take-at}
 use borrow.Author.Tests.{eq-eqb, le-ltb}
-use Rattle.integer.specs.Tests.{hold, each}
-use Rattle.integer.proofs.TestLaws.{split, pair, is-true, hold-at}
-use Rattle.refusal.specs.Refusals.{Row, _when_, gives, declines, firstOf, leaves}
+use Rattle.integer.specs.Tests.{hold}
+use Rattle.integer.proofs.TestLaws.{split, pair, is-true, hold-at, each-++}
+use Rattle.refusal.specs.Refusals.{_when_, gives, done, firstRefusal}
 use Rattle.block.specs.Bytes.{areBytes}
 use Rattle.block.specs.Block.{sumsOf, checked, sealed, placed}
 use Rattle.block.proofs.ByteLaws.{byte-at, checked-is, sealed-checked}
 use Rattle.setting.specs.declared.Setting.{Setting}
 use Rattle.setting.specs.Values.{FieldRule, between, fields, allRight, factorHigh, factorsLow, valueRows, startRows, startable}
 use Rattle.refusal.proofs.RowLaws.{noneApplies, none-gives, gives-none}
+use Rattle.refusal.proofs.Stops.{gives-same}
+use Rattle.refusal.proofs.Outcomes.{leaves-given}
 use Rattle.setting.proofs.LimitLaws.{startable-is}
 use Rattle.setting_block.specs.Layout.{settingAt, marked, spares, header, blockOf}
 use Rattle.setting_block.specs.Calls.{readRows, writeRows, writeLeaves}
 use Rattle.setting_block.specs.RoundTrip.{ReadThenWrite, WriteThenRead}
 use Rattle.setting_block.proofs.LayoutLaws.{spares-zero, zero-spares, body-is, header-length, header-marked, header-zero, setting-back}
-
--- ---- rows of which none applies
-
--- the values that are given are those at hand
-gives-is : {A : Type 0} {a b : A} (rs : List Row) → firstOf rs a ≡ gives b → a ≡ b
-gives-is [] e = cc
-gives-is {a = a} {b = b} (r ∷ rs) e = by (r .applies) (gives-is rs) e
-  where
-    by : (t : Bool) → (firstOf rs a ≡ gives b → a ≡ b) → cond t (declines (r .number)) (firstOf rs a) ≡ gives b → a ≡ b
-    by true rest k = cc
-    by false rest k = rest k
-
-leaves-none : {A : Type 0} (rs : List Row) (a b : A) → T (noneApplies rs) → leaves rs a b ≡ b
-leaves-none [] a b h = refl
-leaves-none (r ∷ rs) a b h = by (r .applies) (leaves-none rs a b) h
-  where
-    by : (t : Bool) → (T (noneApplies rs) → leaves rs a b ≡ b) → T (not t && noneApplies rs) → cond t a (leaves rs a b) ≡ b
-    by true rest k = absurd k
-    by false rest k = rest k
-
-each-++ : {A : Type 0} (t : A → Bool) (l m : List A) → each t (l ++ m) ≡ (each t l && each t m)
-each-++ t [] m = refl
-each-++ t (a ∷ l) m = rw (each-++ t l m) (sym (and-assoc (t a) (each t l) (each t m)))
 
 -- ---- when the reader accepts, and when the writer does
 
@@ -87,12 +66,13 @@ block-back s bytes h =
 pub read-write : ReadThenWrite
 unfolding ReadThenWrite
 read-write s v bytes e buffer l =
-    let same : settingAt s ≡ v = gives-is (readRows s) e in
+    let same : settingAt s ≡ v = gives-same (readRows s) (settingAt s) v e in
     let h : T (hold (tests s)) = rw reads-when at (gives-none (readRows s) (rw (← same) at e)) in
     let start : T (startable v) = rw same at (hold-at (tests s) h 3) in
     let back : blockOf v ≡ s = rw same at (block-back s bytes h) in
     let n : T (noneApplies (writeRows v buffer)) = rw (writes-when v buffer) (pair (startable v) _ start (rw (le-ltb (length buffer) 512 l) tt)) in
-    (none-gives (writeRows v buffer) n, leaves-none (writeRows v buffer) buffer (placed buffer (blockOf v)) n ∙ rw back)
+    let written : firstRefusal (writeRows v buffer) ≡ done = none-gives (writeRows v buffer) n in
+    (written, leaves-given (tt {0}) buffer (placed buffer (blockOf v)) (writeRows v buffer) written ∙ rw back)
 
 -- ---- the block of startable values is one that the reader accepts, and holds these values
 
@@ -134,5 +114,5 @@ unfolding WriteThenRead
 write-read v buffer e =
     let n : T (noneApplies (writeRows v buffer)) = gives-none (writeRows v buffer) e in
     let start : T (startable v) = split (startable v) _ (rw writes-when at n) .0 in
-    let block : take 512 (writeLeaves v buffer) ≡ blockOf v = rw (leaves-none (writeRows v buffer) buffer (placed buffer (blockOf v)) n) (take-at (blockOf v) (drop 512 buffer) 512 (block-length v)) in
+    let block : take 512 (writeLeaves v buffer) ≡ blockOf v = rw (leaves-given (tt {0}) buffer (placed buffer (blockOf v)) (writeRows v buffer) e) (take-at (blockOf v) (drop 512 buffer) 512 (block-length v)) in
     rw block (none-gives (readRows (blockOf v)) (rw reads-when (block-tests v start)) ∙ ap gives (values-back v start))
