@@ -1,4 +1,4 @@
--- A fresh record is admissible, and a sample call or a reset keeps it so; a sample call keeps the setting.
+-- A fresh record is admissible, and a sample call keeps it so, with its setting.
 use mathlib.Core.Path.{_≡_, refl, ap, _∙_}
 use mathlib.Core.Bool.{Bool, true, false, cond}
 use mathlib.Core.List.{List}
@@ -13,14 +13,15 @@ use Rattle.setting.specs.Values.{startable}
 use Rattle.relay.specs.declared.Relay.{Relay}
 use Rattle.record.specs.Record.{elementOf, perSystem, clear, within800000, windowWithin, countersWithin}
 use Rattle.relay.specs.Record.{fresh, admissible}
-use Rattle.relay.specs.Calls.{accepted, windowAfter, elementNow, relayNow, cleared, sampleRelay}
+use Rattle.relay.specs.Calls.{accepted, windowAfter, elementNow, relayNow, sampleRelay}
 use Rattle.relay.proofs.Admission.{is-T, admitted-is}
 use Rattle.relay.proofs.Below.{matched-bound}
 use Rattle.relay.proofs.Cases.{sample-leaves}
 use Rattle.relay.proofs.Taken.{element-≤, reach, sized-of}
 use Rattle.record.proofs.Placed.{each-sized, placed-sized, placed-fill}
 
-no-counts : (v : Setting) → hold (countersWithin (v .confirm) (perSystem (λ l. clear))) ≡ true
+-- counters at zero
+pub no-counts : (v : Setting) → hold (countersWithin (v .confirm) (perSystem (λ l. clear))) ≡ true
 no-counts v =
     let none-counted : T (leb 0 (v .confirm)) = le→leb 0 (v .confirm) (omega arith) in
     is-true (hold-of {bs = countersWithin (v .confirm) (perSystem (λ l. clear))} (none-counted & none-counted & none-counted & none))
@@ -28,10 +29,6 @@ no-counts v =
 pub fresh-admissible : (v : Setting) → T (startable v) → admissible (fresh v) ≡ true
 unfolding admissible fresh
 fresh-admissible v s = let sound : startable v ≡ true = is-true s in rw (sound, no-counts v)
-
-pub cleared-admissible : (r : Relay) → admissible r ≡ true → admissible (cleared r) ≡ true
-unfolding admissible cleared
-cleared-admissible r a = let h = admitted-is r a in rw (h .sound, h .within, no-counts (r .setting))
 
 module _ (r : Relay) (xs : List ℤ) (a : admissible r ≡ true) where
   -- the record with an accepted set filed

@@ -19,11 +19,12 @@ use Rattle.relay.specs.declared.Relay.{Relay}
 use Rattle.relay.specs.Record.{fresh, admissible}
 use Rattle.relay.specs.Calls.{accepted, windowAfter, relayNow, replyNow, cleared}
 use Rattle.stability.specs.Lists.{Call, sample, reset, after, run, filedBy, filed, last12, windowOf, WindowFiled, Answered}
+use Rattle.relay.proofs.Admission.{admitted-is}
 use Rattle.relay.proofs.Taken.{numbers-twelve}
 use Rattle.stability.proofs.FlatLists.{Twelve}
 use Rattle.stability.proofs.Filing.{push, push-last, push-few, each-push, filed-window}
 use Rattle.relay.proofs.Cases.{sample-leaves, sample-gives, reset-leaves}
-use Rattle.relay.proofs.Kept.{fresh-admissible, now-admissible, cleared-admissible}
+use Rattle.relay.proofs.Kept.{no-counts, fresh-admissible, now-admissible}
 
 -- ---- what a record holds
 
@@ -39,6 +40,10 @@ unfolding fresh windowOf flatten
 holds-fresh v s = record { same = refl; window = refl; few = omega arith; twelves = none; ok = fresh-admissible v s }
 
 -- ---- a call keeps it
+
+cleared-admissible : (r : Relay) → admissible r ≡ true → admissible (cleared r) ≡ true
+unfolding admissible cleared
+cleared-admissible r a = let h = admitted-is r a in rw (h .sound, h .within, no-counts (r .setting))
 
 module _ {v : Setting} where
   -- the window with an accepted set filed
