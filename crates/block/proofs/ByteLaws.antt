@@ -6,17 +6,17 @@ use Prim.Native.Nat.{ℕ, zero, suc, _+_, _*_, _-_, _/_, _%_, _<_, _≤_}
 use native.Mathlib.Nat.{add-assoc, div-div-eq-div-mul, mod-eq-of-lt, add-mul-mod-self-left}
 use native.Mathlib.Omega.{arith}
 use borrow.Author.Tests.{lt-ltb, le-ltb, eq-eqb}
-use lib.Dec.{T, ltb, eqb, ltb→lt, lt→ltb, nltb→le, eqb→eq}
+use lib.Dec.{T, ltb, eqb, ltb→lt, nltb→le, eqb→eq}
 use lib.IntN.{ℤ, pos, negsuc, _-ℤ_}
 use lib.ListN.{length, getD, take, drop, replicate, take-append-drop, drop-of-length-le}
 use lib.Seq.{getD-drop, getD-at, getD-append-add, take-at}
 use mir.Syntax.{w16}
 use mir.Val.{SFits}
-use Rattle.integer.specs.Tests.{Each, none, _&_}
+use Rattle.integer.specs.Tests.{Each}
 use Rattle.integer.proofs.Reading.{ints}
-use Rattle.integer.proofs.TestLaws.{split, pair, each-append, each-get, each-test, test-each}
+use Rattle.integer.proofs.TestLaws.{split, each-get, test-each}
 use Rattle.block.specs.Bytes.{u16At, u32At, signed, i16At, bytes16, bytes32, bits, zeros, areBytes}
-use Rattle.block.specs.Block.{sumsFrom, sumsOf, checked, sealed}
+use Rattle.block.specs.Block.{sumsOf, checked, sealed}
 use Rattle.integer.proofs.Places.{drop-next}
 
 -- ---- a number is read in a part as it is in the whole
@@ -24,10 +24,6 @@ use Rattle.integer.proofs.Places.{drop-next}
 module _ (s : List ℕ) (n at : ℕ) where
   pub u16-drop : u16At (drop n s) at ≡ u16At s (n + at)
   u16-drop = rw (getD-drop n s at 0, getD-drop n s (at + 1) 0, add-assoc n at 1)
-
-  pub u32-drop : u32At (drop n s) at ≡ u32At s (n + at)
-  u32-drop =
-      rw (getD-drop n s at 0, getD-drop n s (at + 1) 0, getD-drop n s (at + 2) 0, getD-drop n s (at + 3) 0, add-assoc n at 1, add-assoc n at 2, add-assoc n at 3)
 
 -- ---- written and read
 
@@ -115,26 +111,7 @@ module _ (s : List ℕ) where
   pub byte-at : T (areBytes s) → (k : ℕ) → getD s k 0 < 256
   byte-at h k = each-get (each-byte h) {d = 0} (omega arith) k
 
-are-bytes : {s : List ℕ} → Each (λ x. x < 256) s → T (areBytes s)
-are-bytes = each-test (λ x. ltb x 256) (λ x. lt→ltb x 256)
-
-pub bytes-of : (s : List ℕ) → ((k : ℕ) → getD s k 0 < 256) → T (areBytes s)
-bytes-of [] h = tt
-bytes-of (x ∷ s) h = pair (ltb x 256) (areBytes s) (lt→ltb x 256 (h 0)) (bytes-of s (λ k. h (suc k)))
-
-pub bytes-append : (s t : List ℕ) → T (areBytes s) → T (areBytes t) → T (areBytes (s ++ t))
-bytes-append s t h k = are-bytes (each-append (each-byte s h) (each-byte t k))
-
 -- ---- the check
-
-from-small : (a b : ℕ) (s : List ℕ) → a < 255 → b < 255 → (sumsFrom a b s .a < 255) × (sumsFrom a b s .b < 255)
-unfolding sumsFrom
-from-small a b [] h k = (h, k)
-from-small a b (x ∷ s) h k = from-small _ _ s (omega arith) (omega arith)
-
--- each sum is below 255
-pub sums-small : (s : List ℕ) → (sumsOf s .a < 255) × (sumsOf s .b < 255)
-sums-small s = from-small 0 0 s (omega arith) (omega arith)
 
 -- what stands from n on in a list of n + 2
 last-two : (s : List ℕ) (n : ℕ) → length s ≡ n + 2 → drop n s ≡ getD s n 0 ∷ getD s (n + 1) 0 ∷ []
@@ -156,9 +133,3 @@ sealed-checked body l =
     let e₁ : getD (sealed body) 511 0 ≡ b = rw l at (getD-append-add body (a ∷ b ∷ []) 1 0) in
     let front : take 510 (sealed body) ≡ body = take-at body (a ∷ b ∷ []) 510 l in
     rw (front, e₀, e₁, eq-eqb a a refl, eq-eqb b b refl)
-
--- a body of bytes with its check is a list of bytes
-pub sealed-bytes : (body : List ℕ) → T (areBytes body) → T (areBytes (sealed body))
-sealed-bytes body h =
-    let k = sums-small body in
-    are-bytes (each-append (each-byte body h) (omega arith & omega arith & none))

@@ -3,13 +3,12 @@ use borrow.Author.Needs.{needs}
 use mathlib.Core.Path.{refl}
 use native.Mathlib.Omega.{arith}
 use Prim.Native.Nat.{ℕ, _*_, _^_}
-use lib.IntN.{ℤ, pos, _+ℤ_, _-ℤ_, _*ℤ_}
-use mathlib.Core.Bool.{Bool}
-use lib.Signed.{quotZ, remZ}
+use lib.IntN.{ℤ, pos, _+ℤ_, _*ℤ_}
+use lib.Signed.{quotZ}
 use mir.Syntax.{w64}
-use mir.Val.{SFits, boolByte}
+use mir.Val.{SFits}
 use Rattle.integer.proofs.Reading.{ints, arithℤ, _⇒_}
-use Rattle.integer.proofs.Machine.{back, flag-back, flag-within, quot-within, rem-within, back-within}
+use Rattle.integer.proofs.Machine.{back, quot-within, rem-within, back-within}
 use Rattle.integer.specs.Within.{_within_}
 use Rattle.integer.specs.Nearest.{nearest}
 use Rattle.integer.proofs.Rounding.{floor-less, floor-same}

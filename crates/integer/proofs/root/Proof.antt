@@ -1,10 +1,9 @@
 -- `integer::root` meets its contract. The loop's invariant, with `left` digits still to be tried: r·r ≤ x < (r + 2 ^ left)², and r + 2 ^ left is
 -- at most 2 ^ 32, which keeps every square within 64 bits. The measure is `left`.
 use borrow.Author.Needs.{needs}
-use mathlib.Core.Path.{_≡_, sym, ap, _∙_}
-use Prim.Native.Nat.{ℕ, suc, _+_, _*_, _-_, _/_, _%_, _^_, _≤_, _<_}
+use mathlib.Core.Path.{_≡_, ap, _∙_}
+use Prim.Native.Nat.{ℕ, _+_, _*_, _-_, _/_, _%_, _^_, _≤_, _<_}
 use native.Mathlib.Nat.{mul-le-mul, lt-of-lt-of-le}
-use native.Mathlib.Numerals.{add-one}
 use native.Mathlib.Omega.{arith}
 use lib.Pow.{pow-mono, pow-add, shl-exact}
 use lib.Count.{leadingZeros, leading-le, leading-length}
