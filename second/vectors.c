@@ -1,6 +1,6 @@
 /* Windows for comparing matched numbers and measuring: `vectors input` writes
- * a setting block and a block of twelve sets for each, `vectors expect` the
- * numbers that belong to them. */
+ * a setting block and a block of twelve sets for each, `vectors expect` how
+ * writing them back goes and the numbers that belong to them. */
 #include "draw.h"
 
 #include <stdio.h>
@@ -9,6 +9,7 @@
 #define VECTORS 600
 #define KINDS 14
 #define RETRIES 40
+#define FILLED 7
 
 /* A setting and the twelve sets of its window. */
 struct vector {
@@ -275,12 +276,58 @@ static int put_input(const struct vector *v)
     return fwrite(block, 1, sizeof block, stdout) == sizeof block;
 }
 
-/* Twelve lines of matched numbers, three of measured systems. */
+/* Whether so many bytes are as they were filled. */
+static int kept(const uint8_t *bytes, size_t count)
+{
+    for (size_t i = 0; i < count; i++)
+        if (bytes[i] != FILLED)
+            return 0;
+    return 1;
+}
+
+/* The setting block, written to a buffer with three bytes to spare and to one
+ * that is a byte short. */
+static void put_setting(const struct vector *v)
+{
+    uint8_t block[BLOCK_BYTES], longer[BLOCK_BYTES + 3], shorter[BLOCK_BYTES - 1];
+    unsigned done, declined;
+
+    lay_setting(&v->setting, block);
+    memset(longer, FILLED, sizeof longer);
+    memset(shorter, FILLED, sizeof shorter);
+    done = write_setting(&v->setting, longer, sizeof longer);
+    declined = write_setting(&v->setting, shorter, sizeof shorter);
+    printf("w %u %d %d %u\n", done, memcmp(longer, block, BLOCK_BYTES) == 0,
+           kept(longer + BLOCK_BYTES, 3), declined);
+}
+
+/* The sample block, written as block 1 of a record of three; as block 3, and
+ * with a list one number short. */
+static void put_samples(const struct vector *v)
+{
+    uint8_t block[BLOCK_BYTES], lent[3 * BLOCK_BYTES];
+    unsigned done, past, part;
+
+    write_samples(block, sizeof block, 0, v->list, WINDOW_NUMBERS);
+    memset(lent, FILLED, sizeof lent);
+    past = write_samples(lent, sizeof lent, 3, v->list, WINDOW_NUMBERS);
+    part = write_samples(lent, sizeof lent, 1, v->list, WINDOW_NUMBERS - 1);
+    done = write_samples(lent, sizeof lent, 1, v->list, WINDOW_NUMBERS);
+    printf("w %u %d %d %d %u %u\n", done,
+           memcmp(lent + BLOCK_BYTES, block, BLOCK_BYTES) == 0,
+           kept(lent, BLOCK_BYTES), kept(lent + 2 * BLOCK_BYTES, BLOCK_BYTES),
+           past, part);
+}
+
+/* A line for each block written, twelve of matched numbers, three of measured
+ * systems. */
 static int put_expected(const struct vector *v)
 {
     int32_t values[WINDOW_NUMBERS];
     struct measured m[SYSTEMS];
 
+    put_setting(v);
+    put_samples(v);
     match_window(v, values);
     measure_window(&v->setting, values, m);
     for (size_t i = 0; i < WINDOW_NUMBERS; i++)

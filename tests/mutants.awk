@@ -12,7 +12,7 @@ function replace(word, text,    at, from) {
     }
 }
 
-# Each number that is no part of a name, of a type or of a number with a suffix: one more, and one less.
+# Each number that is no part of a name, of a type, of a pattern or of a number with a suffix: one more, and one less.
 function numbers(    at, size, from, before, after) {
     from = 1
     while (match(substr($0, from), /[0-9]+/)) {
@@ -20,7 +20,7 @@ function numbers(    at, size, from, before, after) {
         size = RLENGTH
         before = substr($0, at - 1, 1)
         after = substr($0, at + size, 1)
-        if (before !~ /[A-Za-z_.]/ && after !~ /[A-Za-z_]/ && substr($0, at - 2, 2) != "; " && size < 10) {
+        if (before !~ /[A-Za-z_.]/ && after !~ /[A-Za-z_]/ && substr($0, at - 2, 2) != "; " && substr($0, at + size, 3) != " =>" && size < 10) {
             change(at, size, substr($0, at, size) + 1)
             if (substr($0, at, size) > 0) change(at, size, substr($0, at, size) - 1)
         }
