@@ -1,5 +1,6 @@
 -- The rows of constants: each is within 1,560, and c and s with them are those of the definition.
 use mathlib.Core.Path.{_≡_, refl}
+use mathlib.Core.List.{List}
 use Prim.Native.Nat.{ℕ}
 use native.Mathlib.Omega.{arith}
 use lib.IntN.{ℤ}
@@ -26,7 +27,11 @@ row-sum : (h from : ℕ) (u : ℕ → ℤ) → rowSum (row h from) u ≡ weighte
 unfolding rowSum row weightedSum sum upTo
 row-sum h from u = refl
 
--- with the row of the harmonic g, which h was told to be
-pub row-cycle : (g : Harmonic) (from : ℕ) (u : ℕ → ℤ) {h : Harmonic} → h ≡ g → nearest (rowSum (row (order g) from) u) 9360 ≡ cycle (order h) from u
+-- for weights ts that are the row
+pub small-is : {ts rs : List ℤ} → ts ≡ rs → Small rs → Small ts
+small-is e h = rw e h
+
+-- of the harmonic g, which h was told to be
+pub row-cycle : (g : Harmonic) (from : ℕ) (u : ℕ → ℤ) {ts : List ℤ} → ts ≡ row (order g) from → {h : Harmonic} → h ≡ g → nearest (rowSum ts u) 9360 ≡ cycle (order h) from u
 unfolding cycle
-row-cycle g from u told = rw (told, row-sum (order g) from u)
+row-cycle g from u e told = rw (e, told, row-sum (order g) from u)

@@ -1,7 +1,9 @@
 // Amplitudes of one cycle: the sums with the twelve constants, and the root of their squares.
 
 ghost use mathlib.Core.Path.{_≡_};
+ghost use mathlib.Core.List.{[], _∷_};
 ghost use Prim.Native.Nat.{_+_, _≤_};
+ghost use lib.IntN.{negℤ};
 ghost use Rattle.integer.specs.Nearest.{nearest};
 ghost use Rattle.integer.specs.Root.{root};
 ghost use Rattle.integer.specs.Within.{_within_};
@@ -38,63 +40,29 @@ fn cycle(u: [i32; 12], weights: [i32; 12]) -> i64
     integer::nearest(weighted_sum(u, weights), 9360)
 }
 
-// c of harmonic h, with the constants t[hk mod 12]. A row for each harmonic, so that the compiler sees the constants.
+// Twelve weights whose second half is the first negated; and whose second half is the first again.
+fn opposite(a: i32, b: i32, c: i32, d: i32, e: i32, f: i32) -> [i32; 12]
+    requires { ⌜ (a within 1560) × (b within 1560) × (c within 1560) × (d within 1560) × (e within 1560) × (f within 1560) ⌝ }
+    ensures { λ r. ⌜ r ≡ a ∷ b ∷ c ∷ d ∷ e ∷ f ∷ negℤ a ∷ negℤ b ∷ negℤ c ∷ negℤ d ∷ negℤ e ∷ negℤ f ∷ [] ⌝ }
+{
+    [a, b, c, d, e, f, -a, -b, -c, -d, -e, -f]
+}
+
+fn repeated(a: i32, b: i32, c: i32, d: i32, e: i32, f: i32) -> [i32; 12]
+    ensures { λ r. ⌜ r ≡ a ∷ b ∷ c ∷ d ∷ e ∷ f ∷ a ∷ b ∷ c ∷ d ∷ e ∷ f ∷ [] ⌝ }
+{
+    [a, b, c, d, e, f, a, b, c, d, e, f]
+}
+
+// c of harmonic h, with the constants t[hk mod 12]: half a cycle on, those of an odd harmonic are opposite and those of an even one the same.
 fn cosine(u: [i32; 12], h: Harmonic) -> i64
     requires { ⌜ Sized u ⌝ }
     ensures { λ r. ⌜ r ≡ cycleOf (order h) 0 (inOrder u) ⌝ }
 {
     match h {
-        Harmonic::First => cycle(
-            u,
-            [
-                1560,
-                1351,
-                780,
-                0,
-                -780,
-                -1351,
-                -1560,
-                -1351,
-                -780,
-                0,
-                780,
-                1351,
-            ],
-        ),
-        Harmonic::Second => cycle(
-            u,
-            [
-                1560,
-                780,
-                -780,
-                -1560,
-                -780,
-                780,
-                1560,
-                780,
-                -780,
-                -1560,
-                -780,
-                780,
-            ],
-        ),
-        Harmonic::Fifth => cycle(
-            u,
-            [
-                1560,
-                -1351,
-                780,
-                0,
-                -780,
-                1351,
-                -1560,
-                1351,
-                -780,
-                0,
-                780,
-                -1351,
-            ],
-        ),
+        Harmonic::First => cycle(u, opposite(1560, 1351, 780, 0, -780, -1351)),
+        Harmonic::Second => cycle(u, repeated(1560, 780, -780, -1560, -780, 780)),
+        Harmonic::Fifth => cycle(u, opposite(1560, -1351, 780, 0, -780, 1351)),
     }
 }
 
@@ -104,57 +72,9 @@ fn sine(u: [i32; 12], h: Harmonic) -> i64
     ensures { λ r. ⌜ r ≡ cycleOf (order h) 9 (inOrder u) ⌝ }
 {
     match h {
-        Harmonic::First => cycle(
-            u,
-            [
-                0,
-                780,
-                1351,
-                1560,
-                1351,
-                780,
-                0,
-                -780,
-                -1351,
-                -1560,
-                -1351,
-                -780,
-            ],
-        ),
-        Harmonic::Second => cycle(
-            u,
-            [
-                0,
-                1351,
-                1351,
-                0,
-                -1351,
-                -1351,
-                0,
-                1351,
-                1351,
-                0,
-                -1351,
-                -1351,
-            ],
-        ),
-        Harmonic::Fifth => cycle(
-            u,
-            [
-                0,
-                780,
-                -1351,
-                1560,
-                -1351,
-                780,
-                0,
-                -780,
-                1351,
-                -1560,
-                1351,
-                -780,
-            ],
-        ),
+        Harmonic::First => cycle(u, opposite(0, 780, 1351, 1560, 1351, 780)),
+        Harmonic::Second => cycle(u, repeated(0, 1351, 1351, 0, -1351, -1351)),
+        Harmonic::Fifth => cycle(u, opposite(0, 780, -1351, 1560, -1351, 780)),
     }
 }
 
