@@ -301,22 +301,22 @@ static void put_setting(const struct vector *v)
            kept(longer + BLOCK_BYTES, 3), declined);
 }
 
-/* The sample block, written as block 1 of a record of three; as block 3, and
- * with a list one number short. */
+/* The sample block, written as block 1 of a record of three, and as block 3;
+ * and thirteen numbers, which are no whole sets. */
 static void put_samples(const struct vector *v)
 {
     uint8_t block[BLOCK_BYTES], lent[3 * BLOCK_BYTES];
-    unsigned done, past, part;
+    unsigned done, past, odd;
 
     write_samples(block, sizeof block, 0, v->list, WINDOW_NUMBERS);
     memset(lent, FILLED, sizeof lent);
     past = write_samples(lent, sizeof lent, 3, v->list, WINDOW_NUMBERS);
-    part = write_samples(lent, sizeof lent, 1, v->list, WINDOW_NUMBERS - 1);
+    odd = write_samples(lent, sizeof lent, 1, v->list, 13);
     done = write_samples(lent, sizeof lent, 1, v->list, WINDOW_NUMBERS);
     printf("w %u %d %d %d %u %u\n", done,
            memcmp(lent + BLOCK_BYTES, block, BLOCK_BYTES) == 0,
            kept(lent, BLOCK_BYTES), kept(lent + 2 * BLOCK_BYTES, BLOCK_BYTES),
-           past, part);
+           past, odd);
 }
 
 /* A line for each block written, twelve of matched numbers, three of measured

@@ -40,7 +40,7 @@ fn cycle(u: [i32; 12], weights: [i32; 12]) -> i64
     integer::nearest(weighted_sum(u, weights), 9360)
 }
 
-// Twelve weights whose second half is the first negated; and whose second half is the first again.
+// Twelve weights: six and then their opposites; six and then the same again.
 fn opposite(a: i32, b: i32, c: i32, d: i32, e: i32, f: i32) -> [i32; 12]
     requires { ⌜ (a within 1560) × (b within 1560) × (c within 1560) × (d within 1560) × (e within 1560) × (f within 1560) ⌝ }
     ensures { λ r. ⌜ r ≡ a ∷ b ∷ c ∷ d ∷ e ∷ f ∷ negℤ a ∷ negℤ b ∷ negℤ c ∷ negℤ d ∷ negℤ e ∷ negℤ f ∷ [] ⌝ }

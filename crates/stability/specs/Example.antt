@@ -28,7 +28,7 @@ use Rattle.stability.specs.Stability.{HealthyCall}
 abbrev rated : End
 rated = record { voltage = 780; current = 1000; group = 0; filter = 0 }
 
-abbrev unused : End
+abbrev pub unused : End
 unused = record { voltage = 0; current = 0; group = 0; filter = 0 }
 
 pub plain : Setting

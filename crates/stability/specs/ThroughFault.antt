@@ -1,5 +1,5 @@
 -- A healthy bank at a heavy through-fault, beside demand 3: its sets are accepted and healthy, so the demand speaks of them. A bank of groups 0 and 5
--- carries twenty times reference current on limb A, with five times of zero sequence at the end that filters it out.
+-- carries twenty times reference current on limb A, and zero sequence of five times at the end that filters it out.
 use mathlib.Core.List.{List, [], _∷_, _++_}
 use lib.Dec.{T}
 use lib.IntN.{ℤ, pos, negℤ}
@@ -9,6 +9,7 @@ use Rattle.setting.specs.declared.Setting.{Setting}
 use Rattle.setting.specs.Values.{startable}
 use Rattle.matching.specs.Bank.{Healthy}
 use Rattle.relay.specs.Calls.{accepted}
+use Rattle.stability.specs.Example.{unused}
 
 -- S 40 MVA; 110 kV and 300 A, group 0, filter on; 20 kV and 1,200 A, group 5, filter off
 abbrev high : End
@@ -16,9 +17,6 @@ high = record { voltage = 1100; current = 300; group = 0; filter = 1 }
 
 abbrev low : End
 low = record { voltage = 200; current = 1200; group = 5; filter = 0 }
-
-abbrev unused : End
-unused = record { voltage = 0; current = 0; group = 0; filter = 0 }
 
 unfoldable pub bank : Setting
 bank =
