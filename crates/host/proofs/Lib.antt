@@ -1,3 +1,2 @@
--- Laws of the sets of a block, one after the other, and of the steps of a measuring call.
+-- The sets of a block, one after the other.
 mod Sets
-mod Turns

@@ -1,6 +1,6 @@
 -- From a test that computes to the fact at each place, and back.
 use mathlib.Core.Path.{_≡_, refl, sym}
-use mathlib.Core.Bool.{Bool, true, false, cond, _&&_, and-assoc}
+use mathlib.Core.Bool.{Bool, true, false, not, cond, _&&_, and-assoc}
 use mathlib.Core.List.{List, [], _∷_, _++_}
 use Prim.Native.Nat.{ℕ, zero, suc, _<_}
 use native.Mathlib.Omega.{arith}
@@ -20,6 +20,10 @@ split false b t = absurd t
 pub pair : (a b : Bool) → T a → T b → T (a && b)
 pair true b h k = k
 pair false b h k = absurd h
+
+pub not-not : (b : Bool) → T (not (not b)) → T b
+not-not true h = tt
+not-not false h = h
 
 -- a test that is only made where a holds, or where it does not
 pub when : (a b : Bool) → T (cond a b true) → a ≡ true → T b

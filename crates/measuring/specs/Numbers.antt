@@ -10,7 +10,7 @@ use Rattle.integer.specs.Nearest.{nearest, floor}
 use Rattle.integer.specs.Root.{rootBy}
 use Rattle.integer.specs.Sum.{sum}
 use Rattle.integer.specs.Lists.{upTo}
-use Rattle.refusal.specs.Refusals.{Outcome, gives, declines, firstRefusal}
+use Rattle.refusal.specs.Refusals.{byOutcome, firstRefusal}
 use Rattle.setting.specs.declared.End.{End}
 use Rattle.setting.specs.declared.Setting.{Setting}
 use Rattle.setting.specs.Values.{fields, factor, factorHigh, factorsLow, valueRows, startRows}
@@ -57,12 +57,8 @@ abbrev factorOf : (voltage current power : ℕ) → ℤ
 factorOf v i s = factor (twoEnds s (rated v i) (rated v i)) 0
 
 -- the number of the refusal of a setting with V 780 and S 1,351, by I of each end; 0 where it is accepted
-abbrev numberOr0 : Outcome (Unit {0}) → ℤ
-numberOr0 (gives u) = pos 0
-numberOr0 (declines n) = pos n
-
 abbrev refusalOf : (current0 current1 : ℕ) → ℤ
-refusalOf i j = numberOr0 (firstRefusal (startRows (twoEnds 1351 (rated 780 i) (rated 780 j))))
+refusalOf i j = byOutcome (firstRefusal (startRows (twoEnds 1351 (rated 780 i) (rated 780 j)))) (λ n. pos n) (λ done. pos 0)
 
 settings : List Row
 settings =

@@ -1,4 +1,2 @@
--- Laws of a table's rows, for the proofs of the crates above.
-pub mod RowLaws
+-- The first row of a table that applies, for the proofs of the crates above.
 pub mod Stops
-pub mod Outcomes

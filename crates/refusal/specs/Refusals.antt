@@ -1,11 +1,12 @@
 -- The refusals (document 01, "What the relay declines").
-use mathlib.Core.Bool.{Bool, cond}
+use mathlib.Core.Bool.{Bool, not, cond}
 use mathlib.Core.List.{List, [], _∷_}
 use Prim.Native.Nat.{ℕ}
+use Rattle.integer.specs.Tests.{each}
 use Rattle.refusal.specs.declared.Refusal.{Refusal}
 use Rattle.refusal.specs.declared.Refusal.the-variants.{Length, Check, Mark, Ends, Field, FactorHigh, FactorsLow, Sets, Spare, Reach, Unused, Record, Room, Count}
-use Rattle.refusal.specs.declared.Written.{Written}
-use Rattle.refusal.specs.declared.Written.the-variants.{Done, Refused}
+use Rattle.refusal.specs.declared.Verdict.{Verdict}
+use Rattle.refusal.specs.declared.Verdict.the-variants.{Accepted, Refused}
 
 -- the number of each refusal in the table's first column; that of a field carries its offset beside it
 abbrev pub numberOf : Refusal → ℕ
@@ -24,10 +25,18 @@ numberOf Record = 12
 numberOf Room = 13
 numberOf Count = 14
 
+-- ---- what a call gives
+
 -- What a call gives, in the table's terms: its values, or the number of a refusal.
 pub data Outcome (A : Type 0) : Type 0 where
   gives : A → Outcome A
   declines : ℕ → Outcome A
+
+-- What follows from an outcome: from the number of its refusal, or from its values. So a call leaves one thing at a refusal, which may depend on
+-- which one it is, and another where it accepts.
+abbrev pub byOutcome : {A B : Type 0} → Outcome A → (refused : ℕ → B) (given : A → B) → B
+byOutcome (gives a) refused given = given a
+byOutcome (declines n) refused given = refused n
 
 -- A row of the table: the number returned, and when.
 infix 4 _when_
@@ -43,22 +52,22 @@ abbrev pub firstOf : {A : Type 0} → List Row → A → Outcome A
 firstOf [] a = gives a
 firstOf (r ∷ rs) a = cond (r .applies) (declines (r .number)) (firstOf rs a)
 
--- of a call that gives no values: done, or the first row that applies
+-- no row applies
+abbrev pub noneApplies : List Row → Bool
+noneApplies rs = each (λ r. not (r .applies)) rs
+
+-- ---- a call that gives no values: done, or the first row that applies
+
 abbrev pub done : Outcome (Unit {0})
 done = gives (tt {0})
 
 abbrev pub firstRefusal : List Row → Outcome (Unit {0})
 firstRefusal rs = firstOf rs (tt {0})
 
--- a writer's answer in the table's terms
-abbrev pub writtenOf : Written → Outcome (Unit {0})
-writtenOf Done = done
-writtenOf (Refused r) = declines (numberOf r)
-
--- what a call leaves: what it leaves on a refusal where a row applies, else what it leaves when it accepts
-abbrev pub leaves : {A : Type 0} → List Row → (refused accepted : A) → A
-leaves [] a b = b
-leaves (r ∷ rs) a b = cond (r .applies) a (leaves rs a b)
+-- its answer in the table's terms
+abbrev pub outcomeOf : Verdict → Outcome (Unit {0})
+outcomeOf Accepted = done
+outcomeOf (Refused r) = declines (numberOf r)
 
 -- ---- the offset that an answer names: one with refusal 5, none with any other
 
@@ -78,6 +87,6 @@ offsetsOf Record = []
 offsetsOf Room = []
 offsetsOf Count = []
 
-abbrev pub writtenOffsets : Written → List ℕ
-writtenOffsets Done = []
-writtenOffsets (Refused r) = offsetsOf r
+abbrev pub offsets : Verdict → List ℕ
+offsets Accepted = []
+offsets (Refused r) = offsetsOf r

@@ -1,4 +1,4 @@
-// The refusals, their numbers, and a writer's answer.
+// The refusals, their numbers, and the answer of a call that gives no values.
 
 ghost use mathlib.Core.Path.{_≡_};
 ghost use Rattle.refusal.specs.Refusals.{numberOf};
@@ -57,8 +57,8 @@ pub fn number(r: Refusal) -> u8
     }
 }
 
-// A writer's answer.
-pub enum Written {
-    Done,
+// The answer of a call that gives no values: accepted, or the refusal.
+pub enum Verdict {
+    Accepted,
     Refused(Refusal),
 }

@@ -1,106 +1,71 @@
--- The cases of the sample and the reset call on an admissible record.
-use mathlib.Core.Path.{_≡_, refl, _∙_}
+-- The cases of the sample and the reset call: a set that is declined, by the first row that applies, and one that is accepted, which none does.
+use mathlib.Core.Path.{_≡_, refl}
 use mathlib.Core.Logic.{_≢_}
-use mathlib.Core.Bool.{Bool, true, false, not, _&&_, cond}
-use mathlib.Core.List.{List, [], _∷_}
+use mathlib.Core.Bool.{Bool, true, false, not, cond}
+use mathlib.Core.List.{List}
 use Prim.Native.Nat.{ℕ}
-use native.Mathlib.Omega.{arith}
-use borrow.Author.Tests.{eq-eqb, ne-eqb}
+use lib.Dec.{T, eqb}
 use lib.IntN.{ℤ}
-use lib.ListN.{length}
-use Rattle.refusal.specs.Refusals.{Outcome, gives, declines, Row, _when_, firstOf, leaves}
+use Rattle.integer.specs.Tests.{Each, _&_}
+use Rattle.refusal.specs.Refusals.{gives, declines}
+use Rattle.refusal.proofs.Stops.{Passed, Stops, later, Stopped, stops-declines, passed-gives, none-passed, stopped}
 use Rattle.setting.specs.declared.Setting.{Setting}
-use Rattle.relay.specs.declared.Relay.{Relay}
 use Rattle.record.specs.declared.Window.{Window}
+use Rattle.relay.specs.declared.Relay.{Relay}
 use Rattle.relay.specs.declared.Sampled.{Sampled}
 use Rattle.relay.specs.Record.{admissible}
-use Rattle.relay.specs.Calls.{twelve, inReach, unusedZero, accepted, sampleRows, windowAfter, Reply, replyNow, relayNow, replyOf, sampleReply, sampleRelay, Samples, resetRows, cleared, resetReply, resetRelay}
+use Rattle.relay.specs.Calls.{setRows, accepted, sampleRows, windowAfter, replyNow, relayNow, sampleReply, sampleRelay, Gives, Samples, resetRows, cleared, resetReply, resetRelay}
 
--- 14, 10 and 11
-abbrev setRows : (t i u : Bool) → List Row
-setRows t i u = (14 when not t) ∷ (10 when not i) ∷ (11 when not u) ∷ []
+-- ---- any record
 
-set-leaves : {A : Type 0} (a b : A) (t i u : Bool) → leaves (setRows t i u) a b ≡ cond (t && (i && u)) b a
-set-leaves a b true true true = refl
-set-leaves a b true true false = refl
-set-leaves a b true false u = refl
-set-leaves a b false i u = refl
+module _ (r : Relay) (xs : List ℤ) {s : Sampled} where
+  pub declined : {n : ℕ} → Stops (sampleRows r xs) n → Gives (declines n) r s → Samples r xs s
+  declined {n} p g =
+      let o : sampleReply r xs ≡ declines n = stops-declines p _ in
+      record { reply = rw o (g .reply); relay = rw o (g .relay) }
 
-set-gives : {A : Type 0} (a : A) (t i u : Bool) → (t && (i && u)) ≡ true → firstOf (setRows t i u) a ≡ gives a
-set-gives a true true true e = refl
-set-gives a true true false e = absurd-false e
-  where
-    absurd-false : false ≡ true → firstOf (setRows true true false) a ≡ gives a
-    absurd-false e = let z : _≡_ {A = Outcome _} (declines 11) (gives a) = cc in z
-set-gives a true false u e = let z : firstOf (setRows true false u) a ≡ gives a = cc in z
-set-gives a false i u e = let z : firstOf (setRows false i u) a ≡ gives a = cc in z
+  pub taken : Each Passed (sampleRows r xs) → (w : Window) → w ≡ windowAfter r xs → Gives (gives (replyNow r w)) (relayNow r w) s → Samples r xs s
+  taken p w e g =
+      let o : sampleReply r xs ≡ gives (replyNow r (windowAfter r xs)) = passed-gives p _ in
+      record { reply = rw (o, ← e) (g .reply); relay = rw (o, ← e) (g .relay) }
 
--- a refusal that is not 12
-pub record Other {A : Type 0} (o : Outcome A) : Type 0 where
-  pub number : ℕ
-  pub is : o ≡ declines number
-  pub not-12 : number ≢ 12
+-- ---- an admissible record of the setting v
 
-set-declines : {A : Type 0} (a : A) (t i u : Bool) → (t && (i && u)) ≡ false → Other (firstOf (setRows t i u) a)
-set-declines a true true true e = let z : _≡_ {A = ℕ} 0 1 = cc in absurd (omega arith)
-set-declines a true true false e = record { number = 11; is = refl; not-12 = omega arith }
-set-declines a true false u e = record { number = 10; is = refl; not-12 = omega arith }
-set-declines a false i u e = record { number = 14; is = refl; not-12 = omega arith }
+other-12 : {n : ℕ} → T (not (eqb n 12)) → n ≢ 12
+other-12 h e = rw e at h
 
 module _ (v : Setting) (r : Relay) (xs : List ℤ) (adm : admissible r ≡ true) (same : r .setting ≡ v) where
-  -- what the sample call leaves
-  pub sample-leaves : {A : Type 0} (a b : A) → leaves (sampleRows r xs) a b ≡ cond (accepted v xs) b a
-  unfolding sampleRows accepted
-  sample-leaves a b = rw (adm, same) (set-leaves a b (twelve xs) (inReach xs) (unusedZero v xs))
+  first-passed : not (admissible r) ≡ false
+  first-passed = rw adm
 
-  pub sample-gives : {A : Type 0} (a : A) → accepted v xs ≡ true → firstOf (sampleRows r xs) a ≡ gives a
-  unfolding sampleRows accepted
-  sample-gives a e = rw (adm, same) (set-gives a (twelve xs) (inReach xs) (unusedZero v xs) e)
+  pub sample-gives : accepted v xs ≡ true → sampleReply r xs ≡ gives (replyNow r (windowAfter r xs))
+  unfolding sampleRows
+  sample-gives e = passed-gives (first-passed & none-passed (setRows (r .setting) xs) (rw (same, e) tt)) _
 
-  pub sample-declines : {A : Type 0} (a : A) → accepted v xs ≡ false → Other (firstOf (sampleRows r xs) a)
-  unfolding sampleRows accepted
-  sample-declines a e = rw (adm, same) (set-declines a (twelve xs) (inReach xs) (unusedZero v xs) e)
+  -- a refusal of the set, which is not 12
+  pub record Declined : Type 0 where
+    pub number : ℕ
+    pub is : sampleReply r xs ≡ declines number
+    pub not-12 : number ≢ 12
+
+  pub sample-declines : accepted v xs ≡ false → Declined
+  unfolding sampleRows setRows
+  sample-declines e =
+      let d : Stopped (setRows (r .setting) xs) = stopped (setRows (r .setting) xs) (rw (same, e)) in
+      record { number = d .number; is = stops-declines (later first-passed (d .stops)) _; not-12 = other-12 (d .among (λ n. not (eqb n 12)) tt) }
+
+  -- the record that it leaves
+  pub sample-leaves : sampleRelay r xs ≡ cond (accepted v xs) (relayNow r (windowAfter r xs)) r
+  sample-leaves = by (accepted v xs) refl
+    where
+      by : (b : Bool) → accepted v xs ≡ b → sampleRelay r xs ≡ cond b (relayNow r (windowAfter r xs)) r
+      by true e = rw (sample-gives e)
+      by false e = rw (sample-declines e .is)
 
 module _ (r : Relay) (adm : admissible r ≡ true) where
-  pub reset-leaves : resetRelay r ≡ cleared r
-  unfolding resetRows
-  reset-leaves = rw adm
-
   pub reset-gives : resetReply r ≡ gives (tt {0})
   unfolding resetRows
   reset-gives = rw adm
 
--- ---- any record: each refusal by the tests that lead to it, and an accepted set
-
--- the answer and the record of a sample call
-pub record Answers (r : Relay) (xs : List ℤ) (o : Outcome Reply) (after : Relay) : Type 0 where
-  pub reply : o ≡ sampleReply r xs
-  pub relay : after ≡ sampleRelay r xs
-
-module _ (r : Relay) (xs : List ℤ) where
-  pub case-12 : admissible r ≡ false → Answers r xs (declines 12) r
-  unfolding sampleRows
-  case-12 a = record { reply = rw a; relay = rw a }
-
-  module _ (a : admissible r ≡ true) where
-    pub case-14 : (length xs ≡ 12 → ⊥) → Answers r xs (declines 14) r
-    unfolding sampleRows
-    case-14 n = let e = ne-eqb (length xs) 12 n in record { reply = rw (a, e); relay = rw (a, e) }
-
-    module _ (l : length xs ≡ 12) where
-      pub case-10 : inReach xs ≡ false → Answers r xs (declines 10) r
-      unfolding sampleRows
-      case-10 i = let e = eq-eqb (length xs) 12 l in record { reply = rw (a, e, i); relay = rw (a, e, i) }
-
-      module _ (i : inReach xs ≡ true) where
-        pub case-11 : unusedZero (r .setting) xs ≡ false → Answers r xs (declines 11) r
-        unfolding sampleRows
-        case-11 u = let e = eq-eqb (length xs) 12 l in record { reply = rw (a, e, i, u); relay = rw (a, e, i, u) }
-
-        pub case-taken : unusedZero (r .setting) xs ≡ true → (w : Window) → w ≡ windowAfter r xs → Answers r xs (gives (replyNow r w)) (relayNow r w)
-        unfolding sampleRows
-        case-taken u w f = let e = eq-eqb (length xs) 12 l in record { reply = rw (a, e, i, u, f); relay = rw (a, e, i, u, f) }
-
--- a call's answer and record, from what its last step gives
-pub samples-of : {r : Relay} {xs : List ℤ} {s : Sampled} {o : Outcome Reply} {after : Relay} → replyOf (s .answer) ≡ o → s .relay ≡ after → Answers r xs o after → Samples r xs s
-samples-of p q h = record { reply = p ∙ h .reply; relay = q ∙ h .relay }
+  pub reset-leaves : resetRelay r ≡ cleared r
+  reset-leaves = rw reset-gives

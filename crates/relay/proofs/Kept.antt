@@ -53,7 +53,7 @@ module _ (r : Relay) (xs : List ℤ) (a : admissible r ≡ true) where
   by false t = a
 
   pub kept : admissible (sampleRelay r xs) ≡ true
-  kept = ap admissible (sample-leaves (r .setting) r xs a refl r (relayNow r (windowAfter r xs))) ∙ by (accepted (r .setting) xs) (λ t. t)
+  kept = ap admissible (sample-leaves (r .setting) r xs a refl) ∙ by (accepted (r .setting) xs) (λ t. t)
 
   same-by : (b : Bool) → cond b (relayNow r (windowAfter r xs)) r .setting ≡ r .setting
   unfolding relayNow
@@ -62,4 +62,4 @@ module _ (r : Relay) (xs : List ℤ) (a : admissible r ≡ true) where
 
   pub setting-kept : sampleRelay r xs .setting ≡ r .setting
   setting-kept =
-      ap (λ (s : Relay). s .setting) (sample-leaves (r .setting) r xs a refl r (relayNow r (windowAfter r xs))) ∙ same-by (accepted (r .setting) xs)
+      ap (λ (s : Relay). s .setting) (sample-leaves (r .setting) r xs a refl) ∙ same-by (accepted (r .setting) xs)

@@ -14,14 +14,15 @@ use Rattle.integer.specs.Tests.{Each}
 use Rattle.integer.proofs.Reading.{ints}
 use Rattle.integer.proofs.Laws.{within-≤}
 use Rattle.integer.proofs.Places.{upTo-each}
-use Rattle.integer.proofs.TestLaws.{split, each-get, test-each}
+use Rattle.integer.proofs.TestLaws.{not-not, each-get, test-each}
+use Rattle.refusal.proofs.Stops.{none-of}
 use Rattle.setting.specs.declared.Setting.{Setting}
 use Rattle.setting.specs.Values.{startable}
 use Rattle.matching.specs.Sets.{System, sysA, sysB, sysC, seen, phases, placeOf, matchedAt, numbers, system}
 use Rattle.matching.specs.Bank.{InReach, MatchedBound}
 use Rattle.record.specs.declared.Element.{Element}
 use Rattle.record.specs.Record.{elementOf, perSystem, elementAfter, counterAfter}
-use Rattle.relay.specs.Calls.{twelve, inReach, unusedZero, accepted}
+use Rattle.relay.specs.Calls.{inReach, setRows, accepted}
 
 -- ---- the samples and the numbers of an accepted set
 
@@ -38,8 +39,8 @@ reach-of v xs t z h = by (test-each (λ x. leb (natAbs x) 32000) (λ x s. record
     by e sysC = each-get e zero-within (3 * z + 2)
 
 pub reach : (v : Setting) (xs : List ℤ) → T (accepted v xs) → InReach v xs
-unfolding accepted
-reach v xs t = reach-of v xs (split (inReach xs) (unusedZero v xs) (split (twelve xs) _ t .1) .0)
+unfolding setRows
+reach v xs t = reach-of v xs (not-not (inReach xs) (none-of (setRows v xs) t 10))
 
 abbrev pub Sized : ℤ → Type 0
 Sized x = x within 800000

@@ -1,17 +1,19 @@
 -- Starting, sample and reset (document 01, "Characteristic and trip" and "What the relay declines").
 use mathlib.Core.Path.{_≡_}
-use mathlib.Core.Bool.{Bool, not, _&&_, cond}
+use mathlib.Core.Bool.{Bool, true, not, _&&_, cond}
 use mathlib.Core.List.{List, [], _∷_}
 use Prim.Native.Nat.{ℕ, _*_}
 use lib.Dec.{leb, eqb}
 use lib.IntN.{ℤ, pos, natAbs}
 use lib.ListN.{length, drop}
 use Rattle.integer.specs.Tests.{each, eqZ, Each}
-use Rattle.refusal.specs.Refusals.{numberOf, Outcome, gives, declines, done, Row, _when_, firstOf, firstRefusal, leaves}
+use Rattle.refusal.specs.Refusals.{numberOf, Outcome, gives, declines, byOutcome, Row, _when_, firstOf, noneApplies, firstRefusal}
+use Rattle.refusal.specs.Refusals as R
 use Rattle.setting.specs.declared.End.{End}
 use Rattle.setting.specs.declared.Setting.{Setting}
 use Rattle.setting.specs.Values.{startRows, fields}
-use Rattle.setting.specs.Calls.{Wrong, verdictOutcome, verdictOffsets}
+use Rattle.setting.specs.Calls.{Wrong}
+use Rattle.setting.specs.Limits.{fourFactors}
 use Rattle.matching.specs.Sets.{System, sysA, sysB, sysC, numbers}
 use Rattle.record.specs.declared.Element.{Element}
 use Rattle.record.specs.declared.Window.{Window}
@@ -20,11 +22,9 @@ use Rattle.relay.specs.declared.Measure.{Measure}
 use Rattle.relay.specs.declared.Answer.{Answer}
 use Rattle.relay.specs.declared.Answer.the-variants.{Filling, Measured, Refused}
 use Rattle.relay.specs.declared.Sampled.{Sampled}
-use Rattle.relay.specs.declared.ResetAnswer.{ResetAnswer}
-use Rattle.relay.specs.declared.ResetAnswer.the-variants.{Cleared, Declined}
-use Rattle.relay.specs.declared.Restarted.{Restarted}
-use Rattle.relay.specs.declared.Started.{Started}
+use Rattle.relay.specs.declared.Returned.{Returned}
 use Rattle.characteristic.specs.Characteristic.{counts}
+use Rattle.measuring.specs.Sized.{Measurable}
 use Rattle.measuring.specs.Measuring.{differential, start, blocked, readingOf}
 use Rattle.record.specs.Record.{elementOf, perSystem, elementAfter, clear, placed}
 use Rattle.relay.specs.Record.{fresh, admissible}
@@ -43,17 +43,17 @@ inReach xs = each (λ x. leb (natAbs x) 32000) xs
 abbrev pub unusedZero : Setting → List ℤ → Bool
 unusedZero v xs = each (λ x. eqZ x (pos 0)) (drop (3 * v .ends) xs)
 
-unfoldable pub accepted : Setting → List ℤ → Bool
-accepted v xs = twelve xs && (inReach xs && unusedZero v xs)
+-- what a set is declined with, in order: 14, 10, 11
+unfoldable pub setRows : Setting → List ℤ → List Row
+setRows v xs = (14 when not (twelve xs)) ∷ (10 when not (inReach xs)) ∷ (11 when not (unusedZero v xs)) ∷ []
 
--- the sample call declines with 12, 14, 10, 11, in this order
+-- A set is accepted when it has 12 numbers, none beyond ±32,000, and zero at every unused end ("A healthy bank").
+abbrev pub accepted : Setting → List ℤ → Bool
+accepted v xs = noneApplies (setRows v xs)
+
+-- the sample call declines with 12, then as the set is
 unfoldable pub sampleRows : Relay → List ℤ → List Row
-sampleRows r xs =
-    (12 when not (admissible r))
-    ∷ (14 when not (twelve xs))
-    ∷ (10 when not (inReach xs))
-    ∷ (11 when not (unusedZero (r .setting) xs))
-    ∷ []
+sampleRows r xs = (12 when not (admissible r)) ∷ setRows (r .setting) xs
 
 -- ---- the sample call
 
@@ -69,6 +69,11 @@ windowAfter r xs = placed (r .window) (numbers (r .setting) xs)
 -- it holds twelve
 abbrev pub full : Window → Bool
 full w = eqb (w .fill) 12
+
+-- a window that holds twelve, and can be measured
+pub record Full (v : Setting) (w : Window) : Type 0 where
+  pub full : full w ≡ true
+  pub measurable : Measurable v (w .values)
 
 -- whether a system counts; at a set that answers Filling none does
 abbrev pub counting : Setting → Window → System → Bool
@@ -87,22 +92,31 @@ replyNow r w = cond (full w) (measured (measureNow r w sysA) (measureNow r w sys
 unfoldable pub relayNow : Relay → Window → Relay
 relayNow r w = record { setting = r .setting; window = w; trip = perSystem (elementNow r w) }
 
--- the answer and the record of a sample call
+-- the answer of a sample call, and the record that it leaves: as before on a refusal
 abbrev pub sampleReply : Relay → List ℤ → Outcome Reply
 sampleReply r xs = firstOf (sampleRows r xs) (replyNow r (windowAfter r xs))
 
 abbrev pub sampleRelay : Relay → List ℤ → Relay
-sampleRelay r xs = leaves (sampleRows r xs) r (relayNow r (windowAfter r xs))
+sampleRelay r xs = byOutcome (sampleReply r xs) (λ refusal. r) (λ reply. relayNow r (windowAfter r xs))
 
 -- the sample call's answer in the table's terms
-abbrev pub replyOf : Answer → Outcome Reply
-replyOf (Filling n) = gives (filling n)
-replyOf (Measured a b c) = gives (measured a b c)
-replyOf (Refused r) = declines (numberOf r)
+abbrev pub outcomeOf : Answer → Outcome Reply
+outcomeOf (Filling n) = gives (filling n)
+outcomeOf (Measured a b c) = gives (measured a b c)
+outcomeOf (Refused r) = declines (numberOf r)
 
-pub record Samples (r : Relay) (xs : List ℤ) (s : Sampled) : Type 0 where
-  pub reply : replyOf (s .answer) ≡ sampleReply r xs
-  pub relay : s .relay ≡ sampleRelay r xs
+-- an answer and a record
+pub record Gives (o : Outcome Reply) (after : Relay) (s : Sampled) : Type 0 where
+  pub reply : outcomeOf (s .answer) ≡ o
+  pub relay : s .relay ≡ after
+
+abbrev pub Samples : Relay → List ℤ → Sampled → Type 0
+Samples r xs s = Gives (sampleReply r xs) (sampleRelay r xs) s
+
+-- an admissible record, with its factors at hand: what the rest of the call takes once 12 is passed
+pub record InHand (r : Relay) (factors : List ℤ) : Type 0 where
+  pub admitted : admissible r ≡ true
+  pub known : factors ≡ fourFactors (r .setting)
 
 -- ---- reset: 12; it clears counters and latches, not windows
 
@@ -116,14 +130,10 @@ abbrev pub resetReply : Relay → Outcome (Unit {0})
 resetReply r = firstRefusal (resetRows r)
 
 abbrev pub resetRelay : Relay → Relay
-resetRelay r = leaves (resetRows r) r (cleared r)
+resetRelay r = byOutcome (resetReply r) (λ refusal. r) (λ done. cleared r)
 
-abbrev pub resetOf : ResetAnswer → Outcome (Unit {0})
-resetOf Cleared = done
-resetOf (Declined r) = declines (numberOf r)
-
-pub record Resets (r : Relay) (s : Restarted) : Type 0 where
-  pub reply : resetOf (s .answer) ≡ resetReply r
+pub record Resets (r : Relay) (s : Returned) : Type 0 where
+  pub reply : R.outcomeOf (s .verdict) ≡ resetReply r
   pub relay : s .relay ≡ resetRelay r
 
 -- ---- starting a fresh relay from setting values: 4 to 7, and then a blank record, on which every call declines with 12
@@ -149,8 +159,15 @@ blank =
       fifth = 0;
     }
 
-pub record Starts (v : Setting) (s : Started) : Type 0 where
-  pub outcome : verdictOutcome (s .answer) ≡ firstRefusal (startRows v)
-  pub relay : s .relay ≡ leaves (startRows v) (fresh blank) (fresh v)
+abbrev pub startReply : Setting → Outcome (Unit {0})
+startReply v = firstRefusal (startRows v)
+
+-- the values that the record holds: blank ones on a refusal
+abbrev pub startedOn : Setting → Setting
+startedOn v = byOutcome (startReply v) (λ refusal. blank) (λ done. v)
+
+pub record Starts (v : Setting) (s : Returned) : Type 0 where
+  pub reply : R.outcomeOf (s .verdict) ≡ startReply v
+  pub relay : s .relay ≡ fresh (startedOn v)
   -- the offset with 5, which the rules leave free
-  pub offset : Each (Wrong (fields v)) (verdictOffsets (s .answer))
+  pub offset : Each (Wrong (fields v)) (R.offsets (s .verdict))

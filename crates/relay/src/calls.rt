@@ -2,20 +2,15 @@
 
 ghost use mathlib.Core.Path.{_≡_};
 ghost use mathlib.Core.Bool.{true, false};
-ghost use Rattle.refusal.specs.Refusals.{gives, declines, numberOf};
-ghost use Rattle.setting.specs.Limits.{fourFactors};
+ghost use Rattle.refusal.specs.Refusals.{gives, declines, byOutcome, outcomeOf, numberOf};
 ghost use Rattle.characteristic.specs.Characteristic.{counts as countsOf};
-ghost use Rattle.measuring.specs.Sized.{Measurable};
 ghost use Rattle.record.specs.Record.{elementAfter};
-ghost use Rattle.relay.specs.Record.{admissible};
-ghost use Rattle.relay.specs.Calls.{blank as blankOf, full, replyNow, relayNow, replyOf, Samples, Resets, Starts};
+ghost use Rattle.relay.specs.Calls.{blank as blankOf, full, Full, replyNow, relayNow, Gives, InHand, Samples, Resets, Starts};
 use crate::Answer;
 use crate::Measure;
 use crate::Relay;
-use crate::ResetAnswer;
-use crate::Restarted;
+use crate::Returned;
 use crate::Sampled;
-use crate::Started;
 use crate::records;
 use crate::sets;
 use measuring::Reading;
@@ -23,9 +18,9 @@ use record::Element;
 use record::Trip;
 use record::Window;
 use refusal::Refusal;
+use refusal::Verdict;
 use setting::End;
 use setting::Setting;
-use setting::Verdict;
 
 // Setting values that are all zero, of which no relay can be started.
 pub fn blank() -> Setting
@@ -56,6 +51,16 @@ pub fn blank() -> Setting
     }
 }
 
+// The values that the record of a start holds: blank ones on a refusal.
+fn started_on(v: Setting, verdict: Verdict) -> Setting
+    ensures { λ r. ⌜ r ≡ byOutcome (outcomeOf verdict) (λ _. blankOf) (λ _. v) ⌝ }
+{
+    match verdict {
+        Verdict::Accepted => v,
+        Verdict::Refused(_) => blank(),
+    }
+}
+
 // The counter and the latch of a system after it was measured.
 fn element_now(v: Setting, m: Reading, e: Element) -> Element
     ensures { λ r. ⌜ r ≡ elementAfter (v .confirm) (countsOf v (m .d) (m .start) (m .blocked)) e ⌝ }
@@ -70,7 +75,7 @@ fn element_now(v: Setting, m: Reading, e: Element) -> Element
 // A set filed in a window that is not full yet: the number held, counters cleared.
 fn filling(r: Relay, w: Window) -> Sampled
     requires { ⌜ full w ≡ false ⌝ }
-    ensures { λ s. ⌜ (replyOf (s .answer) ≡ gives (replyNow r w)) × (s .relay ≡ relayNow r w) ⌝ }
+    ensures { λ s. ⌜ Gives (gives (replyNow r w)) (relayNow r w) s ⌝ }
 {
     let v = r.setting;
     let t = r.trip;
@@ -79,22 +84,19 @@ fn filling(r: Relay, w: Window) -> Sampled
         b: record::element_after(v.confirm, false, t.b),
         c: record::element_after(v.confirm, false, t.c),
     };
-    let n = w.fill;
-    let relay = Relay {
-        setting: v,
-        window: w,
-        trip: trip,
-    };
+    let mut relay = r;
+    relay.window = w;
+    relay.trip = trip;
     Sampled {
-        answer: Answer::Filling(n),
+        answer: Answer::Filling(w.fill),
         relay: relay,
     }
 }
 
 // A set filed in a window that is full: the three systems measured, counters and latches after it.
 fn measured(r: Relay, w: Window) -> Sampled
-    requires { ⌜ (full w ≡ true) × Measurable (r .setting) (w .values) ⌝ }
-    ensures { λ s. ⌜ (replyOf (s .answer) ≡ gives (replyNow r w)) × (s .relay ≡ relayNow r w) ⌝ }
+    requires { ⌜ Full (r .setting) w ⌝ }
+    ensures { λ s. ⌜ Gives (gives (replyNow r w)) (relayNow r w) s ⌝ }
 {
     let v = r.setting;
     let t = r.trip;
@@ -119,11 +121,9 @@ fn measured(r: Relay, w: Window) -> Sampled
         reading: in_c,
         latched: c.latch,
     };
-    let relay = Relay {
-        setting: v,
-        window: w,
-        trip: trip,
-    };
+    let mut relay = r;
+    relay.window = w;
+    relay.trip = trip;
     Sampled {
         answer: Answer::Measured(of_a, of_b, of_c),
         relay: relay,
@@ -132,7 +132,7 @@ fn measured(r: Relay, w: Window) -> Sampled
 
 // A refusal of a sample call, with the record as before.
 fn refused(r: Relay, why: Refusal) -> Sampled
-    ensures { λ s. ⌜ (replyOf (s .answer) ≡ declines (numberOf why)) × (s .relay ≡ r) ⌝ }
+    ensures { λ s. ⌜ Gives (declines (numberOf why)) r s ⌝ }
 {
     Sampled {
         answer: Answer::Refused(why),
@@ -142,7 +142,7 @@ fn refused(r: Relay, why: Refusal) -> Sampled
 
 // What the sample call does with a record that is admissible, given its factors: for a caller that holds such a record and gives it set after set.
 pub fn sample_admitted(r: Relay, factors: [i64; 4], set: &[i16]) -> Sampled
-    requires { ⌜ (admissible r ≡ true) × (factors ≡ fourFactors (r .setting)) ⌝ }
+    requires { ⌜ InHand r factors ⌝ }
     ensures { λ s. ⌜ Samples r (now (set .entry)) s ⌝ }
 {
     if set.len() != 12 {
@@ -165,19 +165,13 @@ pub fn sample_admitted(r: Relay, factors: [i64; 4], set: &[i16]) -> Sampled
 
 impl Relay {
     // A fresh relay on setting values, or the refusal, 4 to 7, beside a blank record.
-    pub fn start(v: Setting) -> Started
+    pub fn start(v: Setting) -> Returned
         ensures { λ s. ⌜ Starts v s ⌝ }
     {
-        let judged = setting::judging::verdict(v);
-        if let Verdict::Unsound(_) = judged {
-            return Started {
-                answer: judged,
-                relay: records::fresh(blank()),
-            };
-        }
-        Started {
-            answer: judged,
-            relay: records::fresh(v),
+        let verdict = setting::judging::verdict(v);
+        Returned {
+            verdict: verdict,
+            relay: records::fresh(started_on(v, verdict)),
         }
     }
 
@@ -193,12 +187,12 @@ impl Relay {
     }
 
     // Clears counters and latches, and not the window: 12.
-    pub fn reset(self) -> Restarted
+    pub fn reset(self) -> Returned
         ensures { λ s. ⌜ Resets self s ⌝ }
     {
         if !records::admissible(self) {
-            return Restarted {
-                answer: ResetAnswer::Declined(Refusal::Record),
+            return Returned {
+                verdict: Verdict::Refused(Refusal::Record),
                 relay: self,
             };
         }
@@ -213,8 +207,8 @@ impl Relay {
         };
         let mut relay = self;
         relay.trip = trip;
-        Restarted {
-            answer: ResetAnswer::Cleared,
+        Returned {
+            verdict: Verdict::Accepted,
             relay: relay,
         }
     }

@@ -8,8 +8,8 @@ use measuring::Reading;
 use record::Trip;
 use record::Window;
 use refusal::Refusal;
+use refusal::Verdict;
 use setting::Setting;
-use setting::Verdict;
 
 // The relay record.
 pub struct Relay {
@@ -36,19 +36,8 @@ pub struct Sampled {
     pub relay: Relay,
 }
 
-// The answer to a reset.
-pub enum ResetAnswer {
-    Cleared,
-    Declined(Refusal),
-}
-
-pub struct Restarted {
-    pub answer: ResetAnswer,
-    pub relay: Relay,
-}
-
-// The answer to a start, and the relay, blank on a refusal.
-pub struct Started {
-    pub answer: Verdict,
+// The answer to a start or a reset, and the record that comes back: blank where a start is refused.
+pub struct Returned {
+    pub verdict: Verdict,
     pub relay: Relay,
 }

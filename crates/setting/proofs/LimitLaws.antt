@@ -12,12 +12,12 @@ use borrow.Author.Tests.{lt-ltb, le-ltb}
 use Rattle.integer.specs.Within.{_within_}
 use Rattle.integer.specs.Tests.{each}
 use Rattle.integer.proofs.Reading.{ints}
-use Rattle.integer.proofs.TestLaws.{split, each-get, test-each}
+use Rattle.integer.proofs.TestLaws.{split, not-not, each-get, test-each}
 use Rattle.setting.specs.declared.End.{End}
 use Rattle.setting.specs.declared.Setting.{Setting}
 use Rattle.setting.specs.Values.{FieldRule, field, between, endOf, headFields, usedFields, unusedFields, endFields, tailFields, fields, allRight, factor, factors, factorHigh, valueRows, startRows, startable}
 use Rattle.setting.specs.Limits.{Rated, Limits}
-use Rattle.refusal.proofs.RowLaws.{none-of}
+use Rattle.refusal.proofs.Stops.{none-of}
 use Rattle.setting.proofs.FieldLaws.{allRight-++}
 use Rattle.setting.proofs.FactorLaws.{each-upTo, factor-nonneg}
 
@@ -148,10 +148,6 @@ pub record Startable (v : Setting) : Type 0 where
   pub group0 : v .e0 .group ≡ 0
   pub factor-within : (z : ℕ) → z < v .ends → factor v z within 1048576
   pub factor-nonneg : (z : ℕ) → z < v .ends → pos 0 ≤ℤ factor v z
-
-not-not : (b : Bool) → T (not (not b)) → T b
-not-not true h = tt
-not-not false h = h
 
 small : (x : ℤ) → pos 0 ≤ℤ x → x ≤ℤ pos 1048576 → x within 1048576
 small x = simp ints (omega arith)

@@ -8,24 +8,24 @@ use lib.Dec.{T}
 use Rattle.integer.specs.Tests.{Each, none, _&_}
 use Rattle.integer.proofs.TestLaws.{is-false}
 use Rattle.refusal.specs.declared.Refusal.{Refusal}
-use Rattle.refusal.specs.Refusals.{firstRefusal, done}
+use Rattle.refusal.specs.Refusals.{firstRefusal, done, outcomeOf, offsets}
 use Rattle.setting.specs.declared.Setting.{Setting}
 use Rattle.setting.specs.declared.Fault.{Fault}
 use Rattle.setting.specs.declared.Fault.the-variants.{Nowhere, At}
-use Rattle.setting.specs.declared.Verdict.{Verdict}
-use Rattle.setting.specs.declared.Verdict.the-variants.{Sound, Unsound}
+use Rattle.refusal.specs.declared.Verdict.{Verdict}
+use Rattle.refusal.specs.declared.Verdict.the-variants.{Accepted, Refused}
 use Rattle.setting.specs.Values.{FieldRule, between, fields, factorHigh, factorsLow, valueRows, startRows, startable}
 use Rattle.setting.specs.Search.{firstWrong, sooner, verdictOf}
-use Rattle.setting.specs.Calls.{Wrong, Judges, verdictOutcome, verdictOffsets}
-use Rattle.refusal.proofs.RowLaws.{none-gives, gives-none}
+use Rattle.setting.specs.Calls.{Wrong, Judges}
+use Rattle.refusal.proofs.Stops.{none-gives, gives-none}
 use Rattle.setting.proofs.FieldLaws.{allRight-sooner, sooner-wrong}
 
 -- ---- the verdict with a fault beside those of the fields
 
 -- what a verdict on the values v with the fields fs promises: `Judges v` is this of `fields v`
 pub record Answers (v : Setting) (fs : List FieldRule) (r : Verdict) : Type 0 where
-  pub outcome : verdictOutcome r ≡ firstRefusal (valueRows fs v)
-  pub offset : Each (Wrong fs) (verdictOffsets r)
+  pub outcome : outcomeOf r ≡ firstRefusal (valueRows fs v)
+  pub offset : Each (Wrong fs) (offsets r)
 
 -- the fault beside is the first of the fields gs
 pub verdict-answers : (v : Setting) (gs : List FieldRule) → Answers v (fields v ++ gs) (verdictOf (firstWrong gs) v)
@@ -50,13 +50,13 @@ verdict-judges v =
 -- ---- a sound verdict is that of a setting on which a relay can be started
 
 module _ {v : Setting} where
-  pub sound-startable : Judges v Sound → T (startable v)
-  sound-startable j = gives-none (startRows v) (sym (j .outcome))
+  pub sound-startable : Judges v Accepted → T (startable v)
+  sound-startable j = gives-none (startRows v) _ _ (sym (j .outcome))
 
-  pub unsound-not : {q : Refusal} → Judges v (Unsound q) → startable v ≡ false
+  pub unsound-not : {q : Refusal} → Judges v (Refused q) → startable v ≡ false
   unsound-not {q} j =
       is-false
       (λ t.
-      let e : firstRefusal (startRows v) ≡ done = none-gives (startRows v) t in
+      let e : firstRefusal (startRows v) ≡ done = none-gives (startRows v) t _ in
       let z : _≡_ {A = ℕ} 0 1 = cc (j .outcome) in
       omega arith)

@@ -6,8 +6,8 @@ use Rattle.refusal.specs.declared.Refusal.the-variants.{Ends, Field, FactorHigh
 use Rattle.setting.specs.declared.Setting.{Setting}
 use Rattle.setting.specs.declared.Fault.{Fault}
 use Rattle.setting.specs.declared.Fault.the-variants.{Nowhere, At}
-use Rattle.setting.specs.declared.Verdict.{Verdict}
-use Rattle.setting.specs.declared.Verdict.the-variants.{Sound, Unsound}
+use Rattle.refusal.specs.declared.Verdict.{Verdict}
+use Rattle.refusal.specs.declared.Verdict.the-variants.{Accepted, Refused}
 use Rattle.setting.specs.Values.{FieldRule, fields, between, factorHigh, factorsLow}
 
 -- the first field outside its rule
@@ -28,10 +28,10 @@ sooner (At x) (At y) = cond (leb x y) (At x) (At y)
 -- refusals 4 to 7, with a fault found beside those of the fields
 abbrev pub byFault : Fault → Verdict → Verdict
 byFault Nowhere r = r
-byFault (At x) r = Unsound (Field x)
+byFault (At x) r = Refused (Field x)
 
 unfoldable pub verdictOf : Fault → Setting → Verdict
 verdictOf beside v =
-    cond (not (between 2 4 (v .ends))) (Unsound Ends)
+    cond (not (between 2 4 (v .ends))) (Refused Ends)
     (byFault (sooner (firstWrong (fields v)) beside)
-    (cond (factorHigh v) (Unsound FactorHigh) (cond (factorsLow v) (Unsound FactorsLow) Sound)))
+    (cond (factorHigh v) (Refused FactorHigh) (cond (factorsLow v) (Refused FactorsLow) Accepted)))

@@ -9,7 +9,7 @@ use lib.Signed.{leZ}
 use Rattle.integer.specs.Nearest.{nearest}
 use Rattle.integer.specs.Lists.{upTo}
 use Rattle.integer.specs.Tests.{each}
-use Rattle.refusal.specs.Refusals.{Row, _when_}
+use Rattle.refusal.specs.Refusals.{Row, _when_, noneApplies}
 use Rattle.setting.specs.declared.End.{End}
 use Rattle.setting.specs.declared.Setting.{Setting}
 
@@ -119,4 +119,4 @@ startRows v = valueRows (fields v) v
 
 -- a relay can be started on these values
 abbrev pub startable : Setting → Bool
-startable v = each (λ r. not (r .applies)) (startRows v)
+startable v = noneApplies (startRows v)

@@ -6,33 +6,33 @@ ghost use Rattle.setting.specs.Calls.{Judges};
 ghost use Rattle.setting.specs.Search.{verdictOf};
 use crate::Fault;
 use crate::Setting;
-use crate::Verdict;
 use crate::factors;
 use crate::rules;
 use refusal::Refusal;
+use refusal::Verdict;
 
 // Refusals 4 to 7 of setting values, with a fault found beside those of the fields.
 pub fn verdict_beside(v: Setting, beside: Fault) -> Verdict
     ensures { λ r. ⌜ r ≡ verdictOf beside v ⌝ }
 {
     if v.ends < 2 {
-        return Verdict::Unsound(Refusal::Ends);
+        return Verdict::Refused(Refusal::Ends);
     }
     if 4 < v.ends {
-        return Verdict::Unsound(Refusal::Ends);
+        return Verdict::Refused(Refusal::Ends);
     }
     let f = rules::sooner(rules::fault(v), beside);
     if let Fault::At(x) = f {
-        return Verdict::Unsound(Refusal::Field(x));
+        return Verdict::Refused(Refusal::Field(x));
     }
     let k = factors::factors(v);
     if factors::any_high(k) {
-        return Verdict::Unsound(Refusal::FactorHigh);
+        return Verdict::Refused(Refusal::FactorHigh);
     }
     if factors::how_many(k) < 2 {
-        return Verdict::Unsound(Refusal::FactorsLow);
+        return Verdict::Refused(Refusal::FactorsLow);
     }
-    Verdict::Sound
+    Verdict::Accepted
 }
 
 // Whether a relay can be started on setting values, or the refusal, 4 to 7.
@@ -47,7 +47,7 @@ pub fn sound(v: Setting) -> bool
     ensures { λ ok. ⌜ ok ≡ startable v ⌝ }
 {
     match verdict(v) {
-        Verdict::Sound => true,
-        Verdict::Unsound(_) => false,
+        Verdict::Accepted => true,
+        Verdict::Refused(_) => false,
     }
 }

@@ -4,8 +4,6 @@ pub mod factors;
 pub mod judging;
 pub mod rules;
 
-use refusal::Refusal;
-
 // An end: nominal voltage V in 0.1 kV, primary rated current I in A, vector group, zero-sequence filter.
 pub struct End {
     pub voltage: u32,
@@ -43,10 +41,4 @@ pub struct Setting {
 pub enum Fault {
     Nowhere,
     At(u16),
-}
-
-// What the rules say of setting values.
-pub enum Verdict {
-    Sound,
-    Unsound(Refusal),
 }

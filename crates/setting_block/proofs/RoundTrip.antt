@@ -12,18 +12,16 @@ use lib.Seq.{take-at}
 use borrow.Author.Tests.{eq-eqb, le-ltb}
 use Rattle.integer.specs.Tests.{hold}
 use Rattle.integer.proofs.TestLaws.{split, pair, is-true, hold-at, each-++}
-use Rattle.refusal.specs.Refusals.{_when_, gives, done, firstRefusal}
+use Rattle.refusal.specs.Refusals.{_when_, gives, done, noneApplies}
 use Rattle.block.specs.Bytes.{areBytes}
 use Rattle.block.specs.Block.{sumsOf, checked, sealed, placed}
 use Rattle.block.proofs.ByteLaws.{byte-at, checked-is, sealed-checked}
 use Rattle.setting.specs.declared.Setting.{Setting}
 use Rattle.setting.specs.Values.{FieldRule, between, fields, allRight, factorHigh, factorsLow, valueRows, startRows, startable}
-use Rattle.refusal.proofs.RowLaws.{noneApplies, none-gives, gives-none}
-use Rattle.refusal.proofs.Stops.{gives-same}
-use Rattle.refusal.proofs.Outcomes.{leaves-given}
+use Rattle.refusal.proofs.Stops.{none-gives, gives-none, gives-same}
 use Rattle.setting.proofs.LimitLaws.{startable-is}
 use Rattle.setting_block.specs.Layout.{settingAt, marked, spares, header, blockOf}
-use Rattle.setting_block.specs.Calls.{readRows, writeRows, writeLeaves}
+use Rattle.setting_block.specs.Calls.{readRows, writeRows, writeOf, writeLeaves}
 use Rattle.setting_block.specs.RoundTrip.{ReadThenWrite, WriteThenRead}
 use Rattle.setting_block.proofs.LayoutLaws.{spares-zero, zero-spares, body-is, header-length, header-marked, header-zero, setting-back}
 
@@ -67,12 +65,12 @@ pub read-write : ReadThenWrite
 unfolding ReadThenWrite
 read-write s v bytes e buffer l =
     let same : settingAt s ≡ v = gives-same (readRows s) (settingAt s) v e in
-    let h : T (hold (tests s)) = rw reads-when at (gives-none (readRows s) (rw (← same) at e)) in
+    let h : T (hold (tests s)) = rw reads-when at (gives-none (readRows s) _ v e) in
     let start : T (startable v) = rw same at (hold-at (tests s) h 3) in
     let back : blockOf v ≡ s = rw same at (block-back s bytes h) in
     let n : T (noneApplies (writeRows v buffer)) = rw (writes-when v buffer) (pair (startable v) _ start (rw (le-ltb (length buffer) 512 l) tt)) in
-    let written : firstRefusal (writeRows v buffer) ≡ done = none-gives (writeRows v buffer) n in
-    (written, leaves-given (tt {0}) buffer (placed buffer (blockOf v)) (writeRows v buffer) written ∙ rw back)
+    let written : writeOf v buffer ≡ done = none-gives (writeRows v buffer) n _ in
+    (written, rw (written, back))
 
 -- ---- the block of startable values is one that the reader accepts, and holds these values
 
@@ -112,7 +110,7 @@ module _ (v : Setting) where
 pub write-read : WriteThenRead
 unfolding WriteThenRead
 write-read v buffer e =
-    let n : T (noneApplies (writeRows v buffer)) = gives-none (writeRows v buffer) e in
+    let n : T (noneApplies (writeRows v buffer)) = gives-none (writeRows v buffer) _ _ e in
     let start : T (startable v) = split (startable v) _ (rw writes-when at n) .0 in
-    let block : take 512 (writeLeaves v buffer) ≡ blockOf v = rw (leaves-given (tt {0}) buffer (placed buffer (blockOf v)) (writeRows v buffer) e) (take-at (blockOf v) (drop 512 buffer) 512 (block-length v)) in
-    rw block (none-gives (readRows (blockOf v)) (rw reads-when (block-tests v start)) ∙ ap gives (values-back v start))
+    let block : take 512 (writeLeaves v buffer) ≡ blockOf v = rw e (take-at (blockOf v) (drop 512 buffer) 512 (block-length v)) in
+    rw block (none-gives (readRows (blockOf v)) (rw reads-when (block-tests v start)) _ ∙ ap gives (values-back v start))

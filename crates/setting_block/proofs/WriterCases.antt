@@ -7,20 +7,18 @@ use lib.Dec.{ltb}
 use lib.ListN.{length, take, drop, replicate, length-append}
 use lib.Seq.{length-take-le, take-at, take-append-add, drop-append-add, drop-drop}
 use borrow.Author.Tests.{lt-ltb, le-ltb}
-use Rattle.integer.specs.Tests.{Each, none}
+use Rattle.integer.specs.Tests.{none}
 use Rattle.refusal.specs.declared.Refusal.{Refusal}
-use Rattle.refusal.specs.declared.Written.{Written}
-use Rattle.refusal.specs.declared.Written.the-variants.{Done, Refused}
-use Rattle.refusal.specs.Refusals.{numberOf, Row, Outcome, declines, _when_, firstRefusal, writtenOf, offsetsOf, writtenOffsets}
+use Rattle.refusal.specs.declared.Verdict.{Verdict}
+use Rattle.refusal.specs.declared.Verdict.the-variants.{Accepted, Refused}
+use Rattle.refusal.specs.Refusals.{numberOf, Row, declines, done, byOutcome, _when_, firstRefusal, outcomeOf, offsetsOf}
 use Rattle.block.specs.Block.{sealed, placed}
 use Rattle.setting.specs.declared.Setting.{Setting}
-use Rattle.setting.specs.declared.Verdict.{Verdict}
-use Rattle.setting.specs.declared.Verdict.the-variants.{Sound, Unsound}
-use Rattle.setting.specs.Values.{fields, startRows}
-use Rattle.setting.specs.Calls.{Wrong, verdictOutcome, Judges}
+use Rattle.setting.specs.Values.{startRows}
+use Rattle.setting.specs.Calls.{Judges}
 use Rattle.setting_block.specs.Layout.{Laid, header, blockOf}
-use Rattle.setting_block.specs.Calls.{writeRows, Writes}
-use Rattle.refusal.proofs.Outcomes.{byOutcome, firstOf-++, leaves-is}
+use Rattle.setting_block.specs.Calls.{writeRows, writeOf, Writes}
+use Rattle.refusal.proofs.Stops.{firstOf-++}
 
 -- two pieces, put one after the other, are one
 infixl 65 _then_
@@ -45,21 +43,19 @@ module _ (v : Setting) (buffer : List ℕ) where
   room = (13 when ltb (length buffer) 512) ∷ []
 
   -- what the rows give, by the verdict on the values
-  rows-by : {r : Verdict} → Judges v r → firstRefusal (writeRows v buffer) ≡ byOutcome declines (firstRefusal room) (verdictOutcome r)
+  rows-by : {r : Verdict} → Judges v r → writeOf v buffer ≡ byOutcome (outcomeOf r) declines (λ _. firstRefusal room)
   unfolding writeRows
-  rows-by {r} j = firstOf-++ (tt {0}) room (startRows v) ∙ ap (λ (o : Outcome (Unit {0})). byOutcome declines (firstRefusal room) o) (sym (j .outcome))
+  rows-by {r} j = rw (j .outcome) (firstOf-++ (tt {0}) (tt {0}) room (startRows v))
 
-  -- the outcome says what is left in the buffer
-  writes-by : {w : Written} {after : List ℕ} → firstRefusal (writeRows v buffer) ≡ writtenOf w → after ≡ byOutcome (λ n. buffer) (placed buffer (blockOf v)) (writtenOf w)
-      → Each (Wrong (fields v)) (writtenOffsets w) → Writes v buffer w after
-  writes-by e b o = record { outcome = sym e; bytes = b ∙ sym (leaves-is (tt {0}) buffer (placed buffer (blockOf v)) (writeRows v buffer) ∙ rw e); offset = o }
+  pub not-sound : {q : Refusal} → Judges v (Refused q) → Writes v buffer (Refused q) buffer
+  not-sound j = let o : writeOf v buffer ≡ declines _ = rows-by j in record { outcome = sym o; bytes = rw o; offset = j .offset }
 
-  pub not-sound : {q : Refusal} → Judges v (Unsound q) → Writes v buffer (Refused q) buffer
-  not-sound j = writes-by (rows-by j) refl (j .offset)
+  module _ (j : Judges v Accepted) where
+    -- a refusal that names no offset
+    pub no-room : length buffer < 512 → {q : Refusal} → numberOf q ≡ 13 → offsetsOf q ≡ [] → Writes v buffer (Refused q) buffer
+    no-room h {q} e n =
+        let o : writeOf v buffer ≡ declines (numberOf q) = rows-by j ∙ rw (lt-ltb (length buffer) 512 h, e) in
+        record { outcome = sym o; bytes = rw o; offset = rw n none }
 
-  module _ (j : Judges v Sound) where
-    pub no-room : length buffer < 512 → {q : Refusal} → numberOf q ≡ 13 → Each (Wrong (fields v)) (offsetsOf q) → Writes v buffer (Refused q) buffer
-    no-room h e o = writes-by (rows-by j ∙ rw (lt-ltb (length buffer) 512 h, e)) refl o
-
-    pub written : 512 ≤ length buffer → Writes v buffer Done (placed buffer (blockOf v))
-    written h = writes-by (rows-by j ∙ rw (le-ltb (length buffer) 512 h)) refl none
+    pub written : 512 ≤ length buffer → Writes v buffer Accepted (placed buffer (blockOf v))
+    written h = let o : writeOf v buffer ≡ done = rows-by j ∙ rw (le-ltb (length buffer) 512 h) in record { outcome = sym o; bytes = rw o; offset = none }

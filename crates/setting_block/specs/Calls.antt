@@ -6,8 +6,9 @@ use Prim.Native.Nat.{ℕ}
 use lib.Dec.{eqb, ltb}
 use lib.ListN.{length}
 use Rattle.integer.specs.Tests.{Each}
-use Rattle.refusal.specs.declared.Written.{Written}
-use Rattle.refusal.specs.Refusals.{numberOf, Outcome, gives, declines, Row, _when_, firstOf, firstRefusal, writtenOf, leaves, offsetsOf, writtenOffsets}
+use Rattle.refusal.specs.declared.Verdict.{Verdict}
+use Rattle.refusal.specs.Refusals.{numberOf, Outcome, gives, declines, byOutcome, Row, _when_, firstOf, firstRefusal, offsetsOf}
+use Rattle.refusal.specs.Refusals as R
 use Rattle.block.specs.Block.{checked, placed}
 use Rattle.setting.specs.declared.Setting.{Setting}
 use Rattle.setting.specs.Values.{FieldRule, fields, valueRows, startRows}
@@ -38,14 +39,14 @@ abbrev pub outcomeOf : ReadSetting → Outcome Setting
 outcomeOf (Accepted v) = gives v
 outcomeOf (Refused r) = declines (numberOf r)
 
-abbrev pub readOffsets : ReadSetting → List ℕ
-readOffsets (Accepted v) = []
-readOffsets (Refused r) = offsetsOf r
+abbrev pub offsets : ReadSetting → List ℕ
+offsets (Accepted v) = []
+offsets (Refused r) = offsetsOf r
 
 -- what reading the block s gives
 pub record Reads (s : List ℕ) (r : ReadSetting) : Type 0 where
   pub outcome : outcomeOf r ≡ readOf s
-  pub offset : Each (Wrong (blockFields s)) (readOffsets r)
+  pub offset : Each (Wrong (blockFields s)) (offsets r)
 
 -- ---- the writer
 
@@ -53,12 +54,15 @@ pub record Reads (s : List ℕ) (r : ReadSetting) : Type 0 where
 unfoldable pub writeRows : Setting → (buffer : List ℕ) → List Row
 writeRows v buffer = startRows v ++ ((13 when ltb (length buffer) 512) ∷ [])
 
+abbrev pub writeOf : Setting → (buffer : List ℕ) → Outcome (Unit {0})
+writeOf v buffer = firstRefusal (writeRows v buffer)
+
 -- the buffer after the call: the block as its first 512 bytes, or as before
 abbrev pub writeLeaves : Setting → (buffer : List ℕ) → List ℕ
-writeLeaves v buffer = leaves (writeRows v buffer) buffer (placed buffer (blockOf v))
+writeLeaves v buffer = byOutcome (writeOf v buffer) (λ refusal. buffer) (λ done. placed buffer (blockOf v))
 
 -- what writing the values v to a buffer gives
-pub record Writes (v : Setting) (before : List ℕ) (r : Written) (after : List ℕ) : Type 0 where
-  pub outcome : writtenOf r ≡ firstRefusal (writeRows v before)
+pub record Writes (v : Setting) (before : List ℕ) (r : Verdict) (after : List ℕ) : Type 0 where
+  pub outcome : R.outcomeOf r ≡ writeOf v before
   pub bytes : after ≡ writeLeaves v before
-  pub offset : Each (Wrong (fields v)) (writtenOffsets r)
+  pub offset : Each (Wrong (fields v)) (R.offsets r)

@@ -10,10 +10,10 @@ ghost use Rattle.setting_block.specs.Calls.{Reads};
 ghost use Rattle.setting.specs.Search.{firstWrong};
 use crate::ReadSetting;
 use refusal::Refusal;
+use refusal::Verdict;
 use setting::End;
 use setting::Fault;
 use setting::Setting;
-use setting::Verdict;
 use setting::judging;
 use setting::rules::or_else;
 
@@ -126,7 +126,7 @@ pub fn read_setting(s: &[u8]) -> ReadSetting
     let v = setting_at(s);
     let judged = judging::verdict_beside(v, spare_fault(s));
     match judged {
-        Verdict::Sound => ReadSetting::Accepted(v),
-        Verdict::Unsound(r) => ReadSetting::Refused(r),
+        Verdict::Accepted => ReadSetting::Accepted(v),
+        Verdict::Refused(r) => ReadSetting::Refused(r),
     }
 }

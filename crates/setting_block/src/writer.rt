@@ -8,10 +8,9 @@ ghost use Rattle.setting_block.specs.Layout.{Laid, endBytes, blockOf};
 ghost use Rattle.setting_block.specs.Calls.{Writes};
 ghost use Rattle.setting_block.specs.RoundTrip.{ReadThenWrite, WriteThenRead};
 use refusal::Refusal;
-use refusal::Written;
+use refusal::Verdict;
 use setting::End;
 use setting::Setting;
-use setting::Verdict;
 use setting::judging;
 
 // A block with some bytes put at a place; with a number of two bytes, of four, with an end.
@@ -75,17 +74,17 @@ fn block_of(v: Setting) -> [u8; 512]
 }
 
 // Writes setting values as a block to the first 512 bytes of a buffer: 4 to 7, then 13.
-pub fn write_setting(v: Setting, buffer: &mut [u8]) -> Written
+pub fn write_setting(v: Setting, buffer: &mut [u8]) -> Verdict
     ensures { λ r. ⌜ Writes v (now (buffer .entry)) r (now (buffer .exit)) ⌝ }
 {
-    if let Verdict::Unsound(r) = judging::verdict(v) {
-        return Written::Refused(r);
+    if let Verdict::Refused(r) = judging::verdict(v) {
+        return Verdict::Refused(r);
     }
     if buffer.len() < 512 {
-        return Written::Refused(Refusal::Room);
+        return Verdict::Refused(Refusal::Room);
     }
     block::place(buffer, block_of(v));
-    Written::Done
+    Verdict::Accepted
 }
 
 // Reading and writing undo each other: no code, the two statements and their proofs.

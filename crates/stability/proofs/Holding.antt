@@ -72,7 +72,7 @@ module _ {v : Setting} where
 
   pub holds-after : (done : List (List ℤ)) {r : Relay} → Holds v (last12 done) r → (c : Call) → Holds v (last12 (done ++ filedBy v c)) (after r c)
   holds-after done {r} h (sample xs) =
-      rw (sample-leaves v r xs (h .ok) (h .same) r (relayNow r (windowAfter r xs))) (holds-sample done h xs (accepted v xs) (λ t. t))
+      rw (sample-leaves v r xs (h .ok) (h .same)) (holds-sample done h xs (accepted v xs) (λ t. t))
   holds-after done {r} h reset = rw (append-nil done, reset-leaves r (h .ok)) (holds-cleared h)
 
   holds-run : (done : List (List ℤ)) {r : Relay} → Holds v (last12 done) r → (cs : List Call) → Holds v (last12 (done ++ filed v cs)) (run r cs)
@@ -94,5 +94,5 @@ unfolding Answered
 answered v s cs xs t =
     let h = holds-fresh-run v s cs in
     let r = run (fresh v) cs in
-    sample-gives v r xs (h .ok) (h .same) (replyNow r (windowAfter r xs)) (is-true t)
+    sample-gives v r xs (h .ok) (h .same) (is-true t)
     ∙ ap (λ (w : Window). gives (replyNow r w)) (window-after h xs ∙ ap windowOf (push-last (filed v cs) (numbers v xs)))

@@ -179,20 +179,20 @@ module _ (peak-bound : PeakBound) (total-bound : TotalBound) (v : Setting) (s : 
           quiet =
               record {
                 close = close;
-                clear-latches = rw (sample-leaves v r xs adm (h .same) r (relayNow r (windowAfter r xs)), e, filed) (quiet-now ws twelves close r (h .same) (q .clear-latches));
+                clear-latches = rw (sample-leaves v r xs adm (h .same), e, filed) (quiet-now ws twelves close r (h .same) (q .clear-latches));
               };
-          answer = rw (sample-gives v r xs adm (h .same) (replyNow r (windowAfter r xs)) e, filed) (calm-reply ws twelves close r (h .same) (q .clear-latches));
+          answer = rw (sample-gives v r xs adm (h .same) e, filed) (calm-reply ws twelves close r (h .same) (q .clear-latches));
         }
 
     kept-declined : (xs : List ℤ) → accepted v xs ≡ false → Kept (last12 done) r (sample xs)
     kept-declined xs e =
         let adm = h .ok in
-        let o = sample-declines v r xs adm (h .same) (replyNow r (windowAfter r xs)) e in
+        let o = sample-declines v r xs adm (h .same) e in
         record {
           quiet =
               record {
                 close = q .close;
-                clear-latches = rw (sample-leaves v r xs adm (h .same) r (relayNow r (windowAfter r xs)), e) (q .clear-latches);
+                clear-latches = rw (sample-leaves v r xs adm (h .same), e) (q .clear-latches);
               };
           answer = rw (o .is) (o .not-12);
         }

@@ -13,7 +13,7 @@ use Rattle.setting.specs.Values.{endOf, above, below, factor, factorHigh, facto
 use Rattle.matching.specs.Matching.{Three, three, operation, sum3}
 use Rattle.matching.specs.Sets.{System, sysA, sysB, sysC, seen, phases, filtered}
 use Rattle.matching.specs.Bank.{Healthy, NearIdeal, ideal}
-use Rattle.relay.specs.Calls.{accepted}
+use Rattle.relay.specs.Calls.{setRows}
 use Rattle.stability.specs.ThroughFault.{bank, through, ThroughFault}
 
 -- what flows in at end 0, in thousandths on the limbs A, B, C; it leaves at end 1
@@ -78,5 +78,5 @@ healthy =
     }
 
 pub through-fault : ThroughFault
-unfolding ThroughFault bank through factor factorHigh factorsLow valueRows fields nearest floor upTo accepted eqZ
+unfolding ThroughFault bank through factor factorHigh factorsLow valueRows fields nearest floor upTo setRows eqZ
 through-fault = (tt, tt, healthy)

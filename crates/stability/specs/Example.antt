@@ -20,7 +20,7 @@ use Rattle.characteristic.specs.Characteristic.{starts, hasHarmonics}
 use Rattle.measuring.specs.Measuring.{twiceRestraint, harmonics, blocked}
 use Rattle.record.specs.Record.{elementOf, elementAfter, placed}
 use Rattle.relay.specs.Record.{fresh, admissible}
-use Rattle.relay.specs.Calls.{sampleRows, relayNow}
+use Rattle.relay.specs.Calls.{setRows, sampleRows, relayNow}
 use Rattle.stability.specs.Lists.{Call, sample, run}
 use Rattle.stability.specs.Stability.{HealthyCall}
 
@@ -59,7 +59,7 @@ unfoldable pub latchAfter : System → Bool
 latchAfter l = elementOf (run (fresh plain) fault .trip) l .latch
 
 pub fault-trips : startable plain ∷ latchAfter sysA ∷ latchAfter sysB ∷ latchAfter sysC ∷ [] ≡ true ∷ true ∷ false ∷ false ∷ []
-unfolding plain fault latchAfter factor factorHigh factorsLow valueRows fields nearest floor rootBy sum upTo operation operated matched seen matchedAt numbers t weightedSum cycle amplitude twiceRestraint harmonics blocked starts hasHarmonics elementAfter fresh admissible placed sampleRows relayNow eqZ
+unfolding plain fault latchAfter factor factorHigh factorsLow valueRows fields nearest floor rootBy sum upTo operation operated matched seen matchedAt numbers t weightedSum cycle amplitude twiceRestraint harmonics blocked starts hasHarmonics elementAfter fresh admissible placed sampleRows setRows relayNow eqZ
 fault-trips = refl
 
 -- not each of these sets is that of a healthy bank

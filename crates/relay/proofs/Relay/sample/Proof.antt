@@ -1,10 +1,12 @@
 -- `relay::Relay::sample` meets its contract: 12, or the rest of the call on an admissible record.
 use borrow.Author.Needs.{needs}
-use borrow.Author.Tests.{not-true, not-false}
+use borrow.Author.Tests.{not-false}
 use mathlib.Core.Path.{_≡_, sym, _∙_}
 use mathlib.Core.Bool.{true}
 use Rattle.relay.specs.Record.{admissible}
-use Rattle.relay.proofs.Cases.{case-12, samples-of}
+use Rattle.relay.specs.Calls.{sampleRows}
+use Rattle.refusal.proofs.Stops.{here}
+use Rattle.relay.proofs.Cases.{declined}
 use Rattle.relay.proofs.Ready.{factors-ready}
 use Rattle.relay.proofs.Relay.sample.Statement.{statement}
 use Rattle.relay.proofs.Relay.sample.Tie as tie
@@ -19,15 +21,14 @@ refused-requires : tie.Need-refused-requires
 refused-requires c κs = search needs
 
 returns : tie.Need-returns
-returns c =
-    samples-of (c .refused .ensures .0) (c .refused .ensures .1)
-    (case-12 _ _ (sym (c .before .before .admissible .ensures) ∙ not-true (c .before .before .admissible .result) (c .before .if1 .taken)))
+unfolding sampleRows
+returns c = declined (c .before .before .before .args .self) (c .before .before .before .args .set .now) (here (rw (← (c .before .before .admissible .ensures)) (c .before .if1 .taken))) (c .refused .ensures)
 
 factors-requires : tie.Need-factors-requires
 factors-requires c κs = factors-ready _ (c .before .before .before .args .set .now) (admitted (c .before))
 
 sample-admitted-requires : tie.Need-sample-admitted-requires
-sample-admitted-requires c κs = (admitted (c .before .before), c .factors .ensures)
+sample-admitted-requires c κs = record { admitted = admitted (c .before .before); known = c .factors .ensures }
 
 returns-2 : tie.Need-returns-2
 returns-2 c = c .sample-admitted .ensures

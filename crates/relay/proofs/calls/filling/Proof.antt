@@ -15,10 +15,13 @@ element-after-requires-3 c κs = search needs
 
 returns : tie.Need-returns
 returns c =
-    let start = c .before .before .before .before .before in (
-      filling-reply (start .args .r) (start .args .w) (start .pre),
-      filling-relay (start .args .r) (start .args .w) (start .pre) (c .before .before .element-after .ensures) (c .before .element-after2 .ensures) (c .element-after3 .ensures),
-    )
+    let start = c .before .before .before .before .before in
+    record {
+      reply = filling-reply (start .args .r) (start .args .w) (start .pre);
+      relay =
+          filling-relay (start .args .r) (start .args .w) (start .pre) (c .before .before .element-after .ensures) (c .before .element-after2 .ensures)
+          (c .element-after3 .ensures);
+    }
 
 pub filling-spec : {M : Type 1} → statement M
 filling-spec = tie.close (tie.spec element-after-requires element-after-requires-2 element-after-requires-3 returns)

@@ -26,7 +26,10 @@ returns c =
     let a = c .before .before .element-now .ensures in
     let b = c .before .element-now2 .ensures in
     let d = c .element-now3 .ensures in
-    (measured-reply (start .args .r) (start .args .w) (start .pre .0) m a b d, measured-relay (start .args .r) (start .args .w) (start .pre .0) m a b d)
+    record {
+      reply = measured-reply (start .args .r) (start .args .w) (start .pre .full) m a b d;
+      relay = measured-relay (start .args .r) (start .args .w) (start .pre .full) m a b d;
+    }
 
 pub measured-spec : {M : Type 1} → statement M
 measured-spec =

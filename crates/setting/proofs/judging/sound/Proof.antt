@@ -1,8 +1,8 @@
--- `setting::judging::sound` meets its contract: the verdict is `Sound` on startable values, and on no others.
+-- `setting::judging::sound` meets its contract: the verdict is `Accepted` on startable values, and on no others.
 use borrow.Author.Needs.{needs}
 use mathlib.Core.Path.{sym, subst}
 use Rattle.integer.proofs.TestLaws.{is-true}
-use Rattle.setting.specs.declared.Verdict.{Verdict}
+use Rattle.refusal.specs.declared.Verdict.{Verdict}
 use Rattle.setting.specs.Calls.{Judges}
 use Rattle.setting.proofs.VerdictLaws.{sound-startable, unsound-not}
 use Rattle.setting.proofs.judging.sound.Statement.{statement}

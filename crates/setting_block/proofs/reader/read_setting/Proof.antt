@@ -1,36 +1,56 @@
--- `setting_block::reader::read_setting` meets its contract: each return is one of the reader's cases, by the tests on the way to it and by what the calls ensure.
-use borrow.Author.Tests.{not-true, not-false}
+-- `setting_block::reader::read_setting` meets its contract: it tests the first three rows in their order, and the verdict on the values tells the others.
 use borrow.Author.Needs.{needs}
-use mathlib.Core.Path.{_≡_, refl, sym, _∙_}
-use native.Mathlib.Omega.{arith}
-use Rattle.integer.specs.Tests.{none}
-use Rattle.setting.specs.declared.Verdict.{Verdict}
-use Rattle.setting_block.specs.Calls.{Reads}
-use Rattle.setting_block.proofs.ReaderCases.{answer, wrong-length, wrong-check, wrong-mark, judged}
+use borrow.Author.Tests.{eq-eqb, ne-eqb}
+use mathlib.Core.Path.{_≡_, refl, sym, ap, _∙_}
+use mathlib.Core.Bool.{not}
+use mathlib.Core.List.{List}
+use Prim.Native.Nat.{ℕ}
+use lib.ListN.{take}
+use Rattle.integer.specs.Tests.{Each, none, _&_}
+use Rattle.integer.proofs.TestLaws.{each-append}
+use Rattle.refusal.specs.declared.Verdict.{Verdict}
+use Rattle.refusal.proofs.Stops.{Passed, here, past}
+use Rattle.setting_block.specs.Calls.{readRows, Reads}
+use Rattle.setting_block.proofs.ReaderCases.{answer, refused, judged}
 use Rattle.setting_block.proofs.reader.read_setting.Statement.{statement}
 use Rattle.setting_block.proofs.reader.read_setting.Tie as tie
 
+-- ---- the rows passed after each test
+
+abbrev block-1 : tie.Else1 → List ℕ
+block-1 c = c .before .before .args .s .now
+
+passed-1 : (c : tie.Else1) → Each Passed (take 1 (readRows (block-1 c)))
+unfolding readRows
+passed-1 c = ap not (eq-eqb _ _ (c .if1 .left)) & none
+
+passed-2 : (c : tie.Else2) → Each Passed (take 2 (readRows (block-1 (c .before .before))))
+unfolding readRows
+passed-2 c = each-append (passed-1 (c .before .before)) (rw (← (c .before .checked .ensures)) (c .if2 .left) & none)
+
+passed-3 : (c : tie.Else3) → Each Passed (take 3 (readRows (block-1 (c .before .before .before .before))))
+unfolding readRows
+passed-3 c = each-append (passed-2 (c .before .before)) (rw (← (c .before .marked .ensures)) (c .if3 .left) & none)
+
+-- ---- the needs
+
 returns : tie.Need-returns
-returns c = wrong-length _ (omega arith) refl none
+unfolding readRows
+returns c = refused _ _ refl (here (ap not (ne-eqb _ _ (c .if1 .taken))))
 
 checked-requires : tie.Need-checked-requires
 checked-requires c κs = search needs
 
 returns-2 : tie.Need-returns-2
-returns-2 c = wrong-check _ (omega arith) (sym (c .before .checked .ensures) ∙ not-true (c .before .checked .result) (c .if2 .taken)) refl none
+unfolding readRows
+returns-2 c = refused _ _ refl (past 1 _ (passed-1 (c .before .before)) (here (rw (← (c .before .checked .ensures)) (c .if2 .taken))))
 
 marked-requires : tie.Need-marked-requires
 marked-requires c κs = search needs
 
 returns-3 : tie.Need-returns-3
-returns-3 c =
-    wrong-mark
-    _
-    (omega arith)
-    (sym (c .before .before .before .checked .ensures) ∙ not-false (c .before .before .before .checked .result) (c .before .before .if2 .left))
-    (sym (c .before .marked .ensures) ∙ not-true (c .before .marked .result) (c .if3 .taken))
-    refl
-    none
+unfolding readRows
+returns-3 c = refused _ _ refl (past 2 _ (passed-2 (c .before .before)) (here (rw (← (c .before .marked .ensures)) (c .if3 .taken))))
 
 setting-at-requires : tie.Need-setting-at-requires
 setting-at-requires c κs = search needs
@@ -45,15 +65,8 @@ verdict-beside-requires c κs = search needs
 answered : (c : tie.After-verdict-beside) {r : Verdict} → c .verdict-beside .result ≡ r
     → Reads (c .before .before .before .before .before .before .before .before .before .args .s .now) (answer (c .before .before .setting-at .result) r)
 answered c e =
-    let m = c .before .before .before in
-    let k = m .before .before in
-    rw
-    (c .before .before .setting-at .ensures)
-    (judged
-    _
-    (omega (arith, k .before .before .if1 .left))
-    (sym (k .before .checked .ensures) ∙ not-false (k .before .checked .result) (k .if2 .left))
-    (sym (m .before .marked .ensures) ∙ not-false (m .before .marked .result) (m .if3 .left))
+    rw (c .before .before .setting-at .ensures)
+    (judged _ (passed-3 (c .before .before .before))
     (sym e ∙ c .verdict-beside .ensures ∙ rw (c .before .spare-fault .ensures, c .before .before .setting-at .ensures)))
 
 enum-told : tie.Need-enum-told

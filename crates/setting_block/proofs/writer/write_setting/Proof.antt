@@ -2,7 +2,6 @@
 use borrow.Author.Needs.{needs}
 use mathlib.Core.Path.{refl}
 use native.Mathlib.Omega.{arith}
-use Rattle.integer.specs.Tests.{none}
 use Rattle.setting_block.proofs.WriterCases.{not-sound, no-room, written}
 use Rattle.setting_block.proofs.writer.write_setting.Statement.{statement}
 use Rattle.setting_block.proofs.writer.write_setting.Tie as tie
@@ -20,7 +19,7 @@ enum-told : tie.Need-enum-told
 enum-told c = search needs
 
 returns-2 : tie.Need-returns-2
-returns-2 c = no-room _ _ (rw (c .before .enum-told .given .1) at (c .before .before .before .verdict .ensures)) (omega arith) refl none
+returns-2 c = no-room _ _ (rw (c .before .enum-told .given .1) at (c .before .before .before .verdict .ensures)) (omega arith) refl refl
 
 block-of-requires : tie.Need-block-of-requires
 block-of-requires c κs = search needs
