@@ -17,8 +17,8 @@ use Rattle.amplitude.specs.Amplitude.{t, amplitude}
 use Rattle.amplitude.specs.Peak.{peak, PeakBound}
 use Rattle.amplitude.proofs.Bounds.{weights, most, cycle-within, amplitude-≤}
 
-pub peak-small : (E : ℕ) → E ≤ 4 → peak E < 100
-peak-small E four = ltb→lt _ _ (every-at 5 (λ E. ltb (peak E) 100) tt E (omega arith))
+pub peak-small : (E : ℕ) → E ≤ 4 → peak E ≤ 91
+peak-small E four = leb→le _ _ (every-at 5 (λ E. leb (peak E) 91) tt E (omega arith))
 
 -- what c and s are within, for E ends
 abbrev side : (ends : ℕ) → ℕ

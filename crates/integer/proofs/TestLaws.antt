@@ -1,6 +1,6 @@
 -- From a test that computes to the fact at each place, and back.
 use mathlib.Core.Path.{_≡_, refl, sym}
-use mathlib.Core.Bool.{Bool, true, false, not, cond, _&&_, and-assoc}
+use mathlib.Core.Bool.{Bool, true, false, not, cond, _&&_, and-assoc, and-true, and-false}
 use mathlib.Core.List.{List, [], _∷_, _++_}
 use Prim.Native.Nat.{ℕ, zero, suc, _<_}
 use native.Mathlib.Omega.{arith}
@@ -50,6 +50,12 @@ hold-at [] h k = tt
 hold-at (b ∷ bs) h zero = split b (hold bs) h .0
 hold-at (b ∷ bs) h (suc k) = hold-at bs (split b (hold bs) h .1) k
 
+-- one that fails, at any place
+pub hold-not : (bs : List Bool) (k : ℕ) → getD bs k true ≡ false → false ≡ hold bs
+hold-not [] k e = sym e
+hold-not (b ∷ bs) zero e = rw e
+hold-not (b ∷ bs) (suc k) e = rw (← (hold-not bs k e)) (sym (and-false b))
+
 pub every-at : (n : ℕ) (t : ℕ → Bool) → T (every n t) → (k : ℕ) → k < n → T (t k)
 every-at zero t h k l = absurd (omega arith)
 every-at (suc n) t h zero l = split (t zero) (every n (λ k. t (suc k))) h .0
@@ -68,6 +74,11 @@ each-++ t (a ∷ l) m = rw (each-++ t l m) (sym (and-assoc (t a) (each t l) (eac
 pub hold-of : {bs : List Bool} → Each T bs → T (hold bs)
 hold-of none = tt
 hold-of (_&_ {a = b} {l = bs} h k) = pair b (hold bs) h (hold-of k)
+
+-- the last decides, where those before it hold
+pub hold-last : (bs : List Bool) → Each T bs → (b : Bool) → b ≡ hold (bs ++ (b ∷ []))
+hold-last [] none b = sym (and-true b)
+hold-last (a ∷ bs) (h & k) b = rw (is-true {b = a} h) (hold-last bs k b)
 
 module _ {A : Type 0} {P : A → Type 0} where
   pub each-append : {l m : List A} → Each P l → Each P m → Each P (l ++ m)

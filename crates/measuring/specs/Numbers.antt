@@ -11,9 +11,9 @@ use Rattle.integer.specs.Root.{rootBy}
 use Rattle.integer.specs.Sum.{sum}
 use Rattle.integer.specs.Lists.{upTo}
 use Rattle.refusal.specs.Refusals.{byOutcome, firstRefusal}
-use Rattle.setting.specs.declared.End.{End}
 use Rattle.setting.specs.declared.Setting.{Setting}
 use Rattle.setting.specs.Values.{fields, factor, factorHigh, factorsLow, valueRows, startRows}
+use Rattle.setting.specs.Worked.{rated, twoEnds}
 use Rattle.matching.specs.Matching.{Three, three, operation, operated, matched}
 use Rattle.matching.specs.Sets.{sysA, sysB, sysC, seen}
 use Rattle.amplitude.specs.Amplitude.{t, weightedSum, cycle, amplitude}
@@ -28,29 +28,6 @@ abbrev neg : ℕ → ℤ
 neg n = negℤ (pos n)
 
 -- ---- settings of two ends, of group 0 with no filter, and P 200, m1 30, m2 70, Q 4,000
-
-abbrev rated : (voltage current : ℕ) → End
-rated v i = record { voltage = v; current = i; group = 0; filter = 0 }
-
-abbrev twoEnds : (power : ℕ) → End → End → Setting
-twoEnds s a b =
-    record {
-      ends = 2;
-      flags = 0;
-      confirm = 1;
-      power = s;
-      e0 = a;
-      e1 = b;
-      e2 = rated 0 0;
-      e3 = rated 0 0;
-      basic = 200;
-      high = 8000;
-      slope1 = 30;
-      slope2 = 70;
-      third = 4000;
-      second = 15;
-      fifth = 30;
-    }
 
 -- K of an end by V, I and S
 abbrev factorOf : (voltage current power : ℕ) → ℤ

@@ -24,7 +24,9 @@ put-more values t ns at k lw lv ha hk s e =
 
 -- all twelve
 pub put-all : (values ns : List ℤ) (at : ℕ) → length ns ≡ 12 → paste values at ns 12 ≡ take at values ++ (ns ++ drop (at + 12) values)
-put-all values ns at e = ap (λ (l : List ℤ). take at values ++ l ++ drop (at + 12) values) (take-all 12 ns (omega arith)) ∙ append-assoc (take at values) ns (drop (at + 12) values)
+put-all values ns at e =
+    ap (λ (l : List ℤ). take at values ++ l ++ drop (at + 12) values) (take-all 12 ns (omega arith))
+    ∙ append-assoc (take at values) ns (drop (at + 12) values)
 
 module _ (d s : List ℤ) where
   copy-more : (t : List ℤ) (k : ℕ) → k < length d → k < length s → t ≡ paste d 0 s k → set t k (getD s k (pos 0)) ≡ paste d 0 s (k + 1)

@@ -4,37 +4,44 @@ use mathlib.Core.Bool.{Bool, true, false, cond}
 use mathlib.Core.List.{List}
 use Prim.Native.Nat.{ℕ, zero, suc, _+_, _*_, _≤_}
 use native.Mathlib.Omega.{arith}
-use lib.Dec.{T, ltb, leb→le}
+use lib.Dec.{T, ltb, leb→le, le→leb}
 use borrow.Author.Tests.{ltb-true}
 use lib.IntN.{ℤ, pos, natAbs}
 use lib.ListN.{getD, take}
 use Rattle.integer.specs.Within.{_within_}
 use Rattle.integer.specs.Tests.{each, Each, none, _&_}
 use Rattle.integer.proofs.Reading.{ints}
-use Rattle.integer.proofs.TestLaws.{test-each, each-append, each-drop, each-get}
+use Rattle.integer.proofs.TestLaws.{test-each, each-test, each-append, each-drop, each-get}
 use Rattle.record.specs.declared.Window.{Window}
-use Rattle.record.specs.Record.{within800000, afterHeld, atEnd, placed}
+use Rattle.record.specs.Record.{numberWithin, afterHeld, atEnd, placed}
 
-pub each-take : {P : ℤ → Type 0} {l : List ℤ} → Each P l → (n : ℕ) → Each P (take n l)
+-- a matched number that a record may hold
+abbrev pub Sized : ℤ → Type 0
+Sized x = x within 800000
+
+each-take : {P : ℤ → Type 0} {l : List ℤ} → Each P l → (n : ℕ) → Each P (take n l)
 each-take h zero = none
 each-take none (suc n) = none
 each-take (p & h) (suc n) = p & each-take h n
 
--- the numbers of a record that passes the test
-pub each-sized : (l : List ℤ) → T (each within800000 l) → Each (λ x. x within 800000) l
-each-sized l t = test-each within800000 (λ x s. record { size = leb→le (natAbs x) 800000 s }) l t
+-- the test of refusal 12 on the matched numbers as a fact
+pub numbers-sized : {l : List ℤ} → T (each numberWithin l) → Each Sized l
+numbers-sized {l} t = test-each numberWithin (λ x s. record { size = leb→le (natAbs x) 800000 s }) l t
+
+pub sized-test : {l : List ℤ} → Each Sized l → T (each numberWithin l)
+sized-test = each-test numberWithin (λ x h. le→leb (natAbs x) 800000 (h .size))
 
 -- each number of the window after a set
-module _ (w : Window) (ns : List ℤ) (old : Each (λ x. x within 800000) (w .values)) (new : Each (λ x. x within 800000) ns) where
-  pub placed-sized : Each (λ x. x within 800000) (placed w ns .values)
+module _ (w : Window) (ns : List ℤ) (old : Each Sized (w .values)) (new : Each Sized ns) where
+  pub placed-sized : Each Sized (placed w ns .values)
   unfolding placed
   placed-sized = by (ltb (w .fill) 12)
     where
-      by : (b : Bool) → Each (λ x. x within 800000) (cond b (afterHeld w ns) (atEnd w ns) .values)
+      by : (b : Bool) → Each Sized (cond b (afterHeld w ns) (atEnd w ns) .values)
       by true = each-append (each-take old (12 * w .fill)) (each-append new (each-drop old (12 * w .fill + 12)))
       by false = each-append (each-drop old 12) new
 
-  pub placed-each : (k : ℕ) → getD (placed w ns .values) k (pos 0) within 800000
+  pub placed-each : (k : ℕ) → Sized (getD (placed w ns .values) k (pos 0))
   placed-each = each-get placed-sized (simp ints (omega arith))
 
 -- at most twelve are held

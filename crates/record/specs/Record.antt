@@ -1,11 +1,11 @@
 -- The parts of the relay record (document 01, "Characteristic and trip" and refusal 12): counters and latches, and the window.
+use mathlib.Core.Path.{_≡_}
 use mathlib.Core.Bool.{Bool, false, _&&_, _||_, cond}
 use mathlib.Core.List.{List, [], _∷_, _++_}
 use Prim.Native.Nat.{ℕ, _+_, _*_}
 use lib.Dec.{leb, ltb, eqb}
 use lib.IntN.{ℤ, natAbs}
-use lib.ListN.{take, drop}
-use Rattle.integer.specs.Tests.{each}
+use lib.ListN.{length, take, drop}
 use Rattle.matching.specs.Sets.{System, sysA, sysB, sysC}
 use Rattle.record.specs.declared.Element.{Element}
 use Rattle.record.specs.declared.Trip.{Trip}
@@ -38,14 +38,13 @@ clear = record { count = 0; latch = false }
 abbrev pub latchSum : Trip → ℕ
 latchSum t = cond (t .a .latch) 1 0 + (cond (t .b .latch) 2 0 + cond (t .c .latch) 4 0)
 
--- ---- refusal 12, in part: fill above 12, a matched number in any place beyond ±800,000, or a counter above M
+-- ---- refusal 12, in part
 
-abbrev pub within800000 : ℤ → Bool
-within800000 x = leb (natAbs x) 800000
+-- no matched number beyond ±800,000
+abbrev pub numberWithin : ℤ → Bool
+numberWithin x = leb (natAbs x) 800000
 
-abbrev pub windowWithin : Window → List Bool
-windowWithin w = leb (w .fill) 12 ∷ each within800000 (w .values) ∷ []
-
+-- no counter above M
 abbrev pub countersWithin : (M : ℕ) → Trip → List Bool
 countersWithin M t = leb (t .a .count) M ∷ leb (t .b .count) M ∷ leb (t .c .count) M ∷ []
 
@@ -61,3 +60,8 @@ atEnd w ns = record { values = drop 12 (w .values) ++ ns; fill = 12 }
 
 unfoldable pub placed : Window → List ℤ → Window
 placed w ns = cond (ltb (w .fill) 12) (afterHeld w ns) (atEnd w ns)
+
+-- what filing a set gives: that window, of 144 numbers
+pub record Files (w : Window) (ns : List ℤ) (r : Window) : Type 0 where
+  pub window : r ≡ placed w ns
+  pub long : length (r .values) ≡ 144

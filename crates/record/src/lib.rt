@@ -4,9 +4,9 @@ ghost use mathlib.Core.Path.{_≡_};
 ghost use mathlib.Core.Bool.{true, cond};
 ghost use mathlib.Core.List.{_++_};
 ghost use Prim.Native.Nat.{_+_, _≤_};
-ghost use lib.ListN.{length, take, drop};
+ghost use lib.ListN.{take, drop};
 ghost use Rattle.integer.specs.Tests.{each, hold};
-ghost use Rattle.record.specs.Record.{within800000, windowWithin, countersWithin, placed, counterAfter, elementAfter, latchSum};
+ghost use Rattle.record.specs.Record.{numberWithin, countersWithin, Files, counterAfter, elementAfter, latchSum};
 
 // Twelve places of matched numbers: number 12k + 3z + y is that of set k (oldest 0), end z and system y. `fill` places are held.
 pub struct Window {
@@ -26,9 +26,9 @@ pub struct Trip {
     pub c: Element,
 }
 
-// No number beyond 800,000.
-fn within(values: &[i32]) -> bool
-    ensures { λ r. ⌜ r ≡ each within800000 (now (values .entry)) ⌝ }
+// No matched number beyond 800,000.
+pub fn numbers_within(values: &[i32]) -> bool
+    ensures { λ r. ⌜ r ≡ each numberWithin (now (values .entry)) ⌝ }
 {
     let mut i: usize = 0;
     while i < values.len() {
@@ -42,17 +42,6 @@ fn within(values: &[i32]) -> bool
         i += 1;
     }
     true
-}
-
-// At most twelve places held, and no number beyond 800,000.
-pub fn window_within(w: Window) -> bool
-    ensures { λ ok. ⌜ ok ≡ hold (windowWithin w) ⌝ }
-{
-    let values = w.values;
-    if 12 < w.fill {
-        return false;
-    }
-    within(&values)
 }
 
 // No counter above the confirm count.
@@ -102,7 +91,7 @@ fn put(values: [i32; 144], at: usize, ns: [i32; 12]) -> [i32; 144]
 // The window with a set's numbers filed: after those held, or at the end once the oldest has gone.
 pub fn place(w: Window, ns: [i32; 12]) -> Window
     requires { ⌜ w .fill ≤ 12 ⌝ }
-    ensures { λ r. ⌜ (r ≡ placed w ns) × (length (r .values) ≡ 144) ⌝ }
+    ensures { λ r. ⌜ Files w ns r ⌝ }
 {
     let fill = w.fill;
     let old = w.values;

@@ -1,41 +1,32 @@
--- Refusal 12: a record is admissible where its three parts are.
-use mathlib.Core.Path.{_≡_, refl, sym, subst}
-use mathlib.Core.Bool.{Bool, true, false, _&&_}
+-- Refusal 12: from the list of tests to each of them, and back.
+use mathlib.Core.Path.{_≡_}
+use mathlib.Core.Bool.{Bool, true, false}
+use Prim.Native.Nat.{ℕ}
 use lib.Dec.{T}
-use Rattle.integer.specs.Tests.{hold}
-use Rattle.setting.specs.Values.{startable}
+use lib.ListN.{getD, take}
+use Rattle.integer.specs.Tests.{Each}
+use Rattle.integer.proofs.TestLaws.{hold-at, hold-of, hold-not, hold-last, is-true}
 use Rattle.relay.specs.declared.Relay.{Relay}
-use Rattle.record.specs.Record.{windowWithin, countersWithin}
-use Rattle.relay.specs.Record.{admissible}
+use Rattle.relay.specs.Record.{admissions, admissible}
 
 pub is-T : {b : Bool} → b ≡ true → T b
 is-T e = rw e tt
 
 module _ (r : Relay) where
-  pub unsound : startable (r .setting) ≡ false → false ≡ admissible r
+  -- the test at a place of the list
+  pub admitted : admissible r ≡ true → (k : ℕ) → T (getD (admissions r) k true)
   unfolding admissible
-  unsound e = rw e
+  admitted a = hold-at (admissions r) (is-T a)
 
-  pub not-within : startable (r .setting) ≡ true → hold (windowWithin (r .window)) ≡ false → false ≡ admissible r
+  pub admissible-of : Each T (admissions r) → admissible r ≡ true
   unfolding admissible
-  not-within s e = rw (s, e)
+  admissible-of h = is-true (hold-of h)
 
-  pub by-counters : startable (r .setting) ≡ true → hold (windowWithin (r .window)) ≡ true → hold (countersWithin (r .setting .confirm) (r .trip)) ≡ admissible r
+  -- one test that fails; and the last, where those before it hold
+  pub inadmissible : (k : ℕ) → getD (admissions r) k true ≡ false → false ≡ admissible r
   unfolding admissible
-  by-counters s e = rw (s, e)
+  inadmissible = hold-not (admissions r)
 
--- what an admissible record has
-pub record Admitted (r : Relay) : Type 0 where
-  pub sound : startable (r .setting) ≡ true
-  pub within : hold (windowWithin (r .window)) ≡ true
-  pub counted : hold (countersWithin (r .setting .confirm) (r .trip)) ≡ true
-
-pub admitted-is : (r : Relay) → admissible r ≡ true → Admitted r
-unfolding admissible
-admitted-is r e = by (startable (r .setting)) (hold (windowWithin (r .window))) (hold (countersWithin (r .setting .confirm) (r .trip))) refl refl refl e
-  where
-    by : (a b d : Bool) → startable (r .setting) ≡ a → hold (windowWithin (r .window)) ≡ b → hold (countersWithin (r .setting .confirm) (r .trip)) ≡ d → (a && (b && d)) ≡ true → Admitted r
-    by true true true p q s t = record { sound = p; within = q; counted = s }
-    by true true false p q s t = let z : Admitted r = absurd (subst T (sym t) tt) in z
-    by true false d p q s t = let z : Admitted r = absurd (subst T (sym t) tt) in z
-    by false b d p q s t = let z : Admitted r = absurd (subst T (sym t) tt) in z
+  pub last-admits : Each T (take 3 (admissions r)) → getD (admissions r) 3 true ≡ admissible r
+  unfolding admissible
+  last-admits h = hold-last (take 3 (admissions r)) h _

@@ -1,20 +1,20 @@
 -- The cases of the sample and the reset call: a set that is declined, by the first row that applies, and one that is accepted, which none does.
-use mathlib.Core.Path.{_≡_, refl}
+use mathlib.Core.Path.{_≡_}
 use mathlib.Core.Logic.{_≢_}
-use mathlib.Core.Bool.{Bool, true, false, not, cond}
+use mathlib.Core.Bool.{true, false, not}
 use mathlib.Core.List.{List}
 use Prim.Native.Nat.{ℕ}
 use lib.Dec.{T, eqb}
 use lib.IntN.{ℤ}
 use Rattle.integer.specs.Tests.{Each, _&_}
-use Rattle.refusal.specs.Refusals.{gives, declines}
+use Rattle.refusal.specs.Refusals.{Outcome, gives, declines}
 use Rattle.refusal.proofs.Stops.{Passed, Stops, later, Stopped, stops-declines, passed-gives, none-passed, stopped}
 use Rattle.setting.specs.declared.Setting.{Setting}
 use Rattle.record.specs.declared.Window.{Window}
 use Rattle.relay.specs.declared.Relay.{Relay}
 use Rattle.relay.specs.declared.Sampled.{Sampled}
 use Rattle.relay.specs.Record.{admissible}
-use Rattle.relay.specs.Calls.{setRows, accepted, sampleRows, windowAfter, replyNow, relayNow, sampleReply, sampleRelay, Gives, Samples, resetRows, cleared, resetReply, resetRelay}
+use Rattle.relay.specs.Calls.{setRows, accepted, sampleRows, windowAfter, replyNow, relayNow, sampleReply, Gives, Samples, resetRows, cleared, resetReply, resetRelay}
 
 -- ---- any record
 
@@ -31,6 +31,12 @@ module _ (r : Relay) (xs : List ℤ) {s : Sampled} where
 
 -- ---- an admissible record of the setting v
 
+-- a refusal that is not 12
+pub record Other {A : Type 0} (o : Outcome A) : Type 0 where
+  pub number : ℕ
+  pub is : o ≡ declines number
+  pub not-12 : number ≢ 12
+
 other-12 : {n : ℕ} → T (not (eqb n 12)) → n ≢ 12
 other-12 h e = rw e at h
 
@@ -42,25 +48,11 @@ module _ (v : Setting) (r : Relay) (xs : List ℤ) (adm : admissible r ≡ true)
   unfolding sampleRows
   sample-gives e = passed-gives (first-passed & none-passed (setRows (r .setting) xs) (rw (same, e) tt)) _
 
-  -- a refusal of the set, which is not 12
-  pub record Declined : Type 0 where
-    pub number : ℕ
-    pub is : sampleReply r xs ≡ declines number
-    pub not-12 : number ≢ 12
-
-  pub sample-declines : accepted v xs ≡ false → Declined
+  pub sample-declines : accepted v xs ≡ false → Other (sampleReply r xs)
   unfolding sampleRows setRows
   sample-declines e =
       let d : Stopped (setRows (r .setting) xs) = stopped (setRows (r .setting) xs) (rw (same, e)) in
       record { number = d .number; is = stops-declines (later first-passed (d .stops)) _; not-12 = other-12 (d .among (λ n. not (eqb n 12)) tt) }
-
-  -- the record that it leaves
-  pub sample-leaves : sampleRelay r xs ≡ cond (accepted v xs) (relayNow r (windowAfter r xs)) r
-  sample-leaves = by (accepted v xs) refl
-    where
-      by : (b : Bool) → accepted v xs ≡ b → sampleRelay r xs ≡ cond b (relayNow r (windowAfter r xs)) r
-      by true e = rw (sample-gives e)
-      by false e = rw (sample-declines e .is)
 
 module _ (r : Relay) (adm : admissible r ≡ true) where
   pub reset-gives : resetReply r ≡ gives (tt {0})

@@ -1,65 +1,88 @@
--- A fresh record is admissible, and a sample call keeps it so, with its setting.
-use mathlib.Core.Path.{_≡_, refl, ap, _∙_}
-use mathlib.Core.Bool.{Bool, true, false, cond}
+-- The records of a relay started on v: admissible, with v for their setting. A fresh one is so, and each call keeps it so. With such a record a call does
+-- one of three things (`Step`): it files an accepted set, declines a set, or clears counters and latches.
+use mathlib.Core.Path.{_≡_, refl}
+use mathlib.Core.Bool.{Bool, true, false}
 use mathlib.Core.List.{List}
+use Prim.Native.Nat.{ℕ}
 use native.Mathlib.Omega.{arith}
-use lib.Dec.{T, leb, le→leb}
-use lib.IntN.{ℤ, natAbs}
+use lib.Dec.{T, le→leb}
+use lib.IntN.{ℤ}
 use Rattle.integer.specs.Tests.{hold, none, _&_}
-use Rattle.integer.proofs.TestLaws.{hold-at, hold-of, is-true, each-test}
-use Rattle.matching.specs.Sets.{System, sysA, sysB, sysC, numbers}
+use Rattle.refusal.specs.Refusals.{gives}
 use Rattle.setting.specs.declared.Setting.{Setting}
 use Rattle.setting.specs.Values.{startable}
+use Rattle.matching.specs.Sets.{numbers}
+use Rattle.record.specs.Record.{elementOf, perSystem, clear, countersWithin}
+use Rattle.record.proofs.Placed.{numbers-sized, sized-test, placed-sized, placed-fill}
+use Rattle.record.proofs.Elements.{counters-test, element-≤}
 use Rattle.relay.specs.declared.Relay.{Relay}
-use Rattle.record.specs.Record.{elementOf, perSystem, clear, within800000, windowWithin, countersWithin}
 use Rattle.relay.specs.Record.{fresh, admissible}
-use Rattle.relay.specs.Calls.{accepted, windowAfter, elementNow, relayNow, sampleRelay}
-use Rattle.relay.proofs.Admission.{is-T, admitted-is}
-use Rattle.relay.proofs.Below.{matched-bound}
-use Rattle.relay.proofs.Cases.{sample-leaves}
-use Rattle.relay.proofs.Taken.{element-≤, reach, sized-of}
-use Rattle.record.proofs.Placed.{each-sized, placed-sized, placed-fill}
+use Rattle.relay.specs.Calls.{accepted, windowAfter, elementNow, replyNow, relayNow, sampleReply, sampleRelay, resetReply, cleared}
+use Rattle.relay.specs.Lists.{Call, sample, reset, after}
+use Rattle.relay.proofs.Admission.{is-T, admitted, admissible-of}
+use Rattle.relay.proofs.Cases.{Other, sample-gives, sample-declines, reset-leaves, reset-gives}
+use Rattle.relay.proofs.Taken.{reach, sized-of}
 
--- counters at zero
-pub no-counts : (v : Setting) → hold (countersWithin (v .confirm) (perSystem (λ l. clear))) ≡ true
-no-counts v =
-    let none-counted : T (leb 0 (v .confirm)) = le→leb 0 (v .confirm) (omega arith) in
-    is-true (hold-of {bs = countersWithin (v .confirm) (perSystem (λ l. clear))} (none-counted & none-counted & none-counted & none))
+-- ---- records that are admissible
+
+none-counted : (M : ℕ) → T (hold (countersWithin M (perSystem (λ l. clear))))
+none-counted M = counters-test M (λ l. clear) (λ l. omega arith)
 
 pub fresh-admissible : (v : Setting) → T (startable v) → admissible (fresh v) ≡ true
-unfolding admissible fresh
-fresh-admissible v s = let sound : startable v ≡ true = is-true s in rw (sound, no-counts v)
+unfolding fresh
+fresh-admissible v s = admissible-of _ (s & tt & tt & none-counted (v .confirm) & none)
 
-module _ (r : Relay) (xs : List ℤ) (a : admissible r ≡ true) where
-  -- the record with an accepted set filed
-  pub now-admissible : T (accepted (r .setting) xs) → admissible (relayNow r (windowAfter r xs)) ≡ true
-  unfolding admissible relayNow
-  now-admissible t =
-      let v = r .setting in
-      let h = admitted-is r a in
-      let w = windowAfter r xs in
-      let old = each-sized (r .window .values) (hold-at (windowWithin (r .window)) (is-T (h .within)) 1) in
-      let new = sized-of matched-bound v (is-T (h .sound)) xs (reach v xs t) in
-      let small = each-test within800000 (λ x k. le→leb (natAbs x) 800000 (k .size)) (placed-sized (r .window) (numbers v xs) old new) in
-      let few = le→leb (w .fill) 12 (placed-fill (r .window) (numbers v xs)) in
-      let count : (l : System) → T (leb (elementNow r w l .count) (v .confirm)) = λ l. le→leb _ _ (element-≤ (v .confirm) _ (elementOf (r .trip) l)) in
-      let win : hold (windowWithin w) ≡ true = is-true (hold-of {bs = windowWithin w} (few & small & none)) in
-      let counted : hold (countersWithin (v .confirm) (perSystem (elementNow r w))) ≡ true =
-      is-true (hold-of {bs = countersWithin (v .confirm) (perSystem (elementNow r w))} (count sysA & count sysB & count sysC & none)) in
-      rw (h .sound, win, counted)
+module _ (r : Relay) (a : admissible r ≡ true) where
+  cleared-admissible : admissible (cleared r) ≡ true
+  unfolding cleared
+  cleared-admissible = admissible-of _ (admitted r a 0 & admitted r a 1 & admitted r a 2 & none-counted (r .setting .confirm) & none)
 
-  by : (b : Bool) → (T b → T (accepted (r .setting) xs)) → admissible (cond b (relayNow r (windowAfter r xs)) r) ≡ true
-  by true t = now-admissible (t tt)
-  by false t = a
-
-  pub kept : admissible (sampleRelay r xs) ≡ true
-  kept = ap admissible (sample-leaves (r .setting) r xs a refl) ∙ by (accepted (r .setting) xs) (λ t. t)
-
-  same-by : (b : Bool) → cond b (relayNow r (windowAfter r xs)) r .setting ≡ r .setting
+  -- with an accepted set filed
+  now-admissible : (xs : List ℤ) → T (accepted (r .setting) xs) → admissible (relayNow r (windowAfter r xs)) ≡ true
   unfolding relayNow
-  same-by true = refl
-  same-by false = refl
+  now-admissible xs t =
+      let v = r .setting in
+      let ns = numbers v xs in
+      admissible-of _
+      (admitted r a 0
+      & le→leb _ _ (placed-fill (r .window) ns)
+      & sized-test (placed-sized (r .window) ns (numbers-sized (admitted r a 2)) (sized-of v (admitted r a 0) xs (reach v xs t)))
+      & counters-test (v .confirm) (elementNow r (windowAfter r xs)) (λ l. element-≤ (v .confirm) _ (elementOf (r .trip) l))
+      & none)
 
-  pub setting-kept : sampleRelay r xs .setting ≡ r .setting
-  setting-kept =
-      ap (λ (s : Relay). s .setting) (sample-leaves (r .setting) r xs a refl) ∙ same-by (accepted (r .setting) xs)
+-- ---- one call
+
+pub record Valid (v : Setting) (r : Relay) : Type 0 where
+  pub ok : admissible r ≡ true
+  pub same : r .setting ≡ v
+
+-- what a call does with the record r, and the record that it returns
+pub data Step (v : Setting) (r : Relay) : Call → Relay → Type 0 where
+  files : {xs : List ℤ} → accepted v xs ≡ true → sampleReply r xs ≡ gives (replyNow r (windowAfter r xs)) →
+      Step v r (sample xs) (relayNow r (windowAfter r xs))
+  declines : {xs : List ℤ} → accepted v xs ≡ false → Other (sampleReply r xs) → Step v r (sample xs) r
+  clears : resetReply r ≡ gives (tt {0}) → Step v r reset (cleared r)
+
+pub step : {v : Setting} {r : Relay} → Valid v r → (c : Call) → Step v r c (after r c)
+step {v} {r} h reset = rw (reset-leaves r (h .ok)) (clears (reset-gives r (h .ok)))
+step {v} {r} h (sample xs) = by (accepted v xs) refl
+  where
+    by : (b : Bool) → accepted v xs ≡ b → Step v r (sample xs) (sampleRelay r xs)
+    by true e = let o = sample-gives v r xs (h .ok) (h .same) e in rw o (files e o)
+    by false e = let o = sample-declines v r xs (h .ok) (h .same) e in rw (o .is) (declines e o)
+
+valid-step : {v : Setting} {r s : Relay} {c : Call} → Valid v r → Step v r c s → Valid v s
+unfolding relayNow cleared
+valid-step {r = r} h (files {xs = xs} e o) = record { ok = now-admissible r (h .ok) xs (rw (h .same) (is-T e)); same = h .same }
+valid-step h (declines e o) = h
+valid-step {r = r} h (clears o) = record { ok = cleared-admissible r (h .ok); same = h .same }
+
+pub valid-after : {v : Setting} {r : Relay} → Valid v r → (c : Call) → Valid v (after r c)
+valid-after h c = valid-step h (step h c)
+
+-- after a sample call
+pub kept : (r : Relay) (xs : List ℤ) → admissible r ≡ true → admissible (sampleRelay r xs) ≡ true
+kept r xs a = valid-after (record { ok = a; same = refl }) (sample xs) .ok
+
+pub setting-kept : (r : Relay) (xs : List ℤ) → admissible r ≡ true → sampleRelay r xs .setting ≡ r .setting
+setting-kept r xs a = valid-after (record { ok = a; same = refl }) (sample xs) .same

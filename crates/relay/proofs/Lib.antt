@@ -1,4 +1,4 @@
--- Laws of the calls: their cases, what an accepted set is ready for, and that a record stays admissible.
+-- Laws of the calls: their cases, what an accepted set is ready for, that a record stays admissible, and the induction over lists of calls.
 pub mod Cases
 pub mod Taken
 pub mod Admission
@@ -6,3 +6,4 @@ pub mod Below
 pub mod Settled
 pub mod Ready
 pub mod Kept
+pub mod Induction

@@ -7,7 +7,6 @@ use native.Mathlib.Omega.{arith}
 use lib.Dec.{T, leb→le}
 use lib.IntN.{ℤ}
 use lib.ListN.{length}
-use Rattle.integer.proofs.TestLaws.{hold-at}
 use Rattle.setting.specs.Values.{startable}
 use Rattle.setting.specs.Limits.{Limits, fourFactors}
 use Rattle.setting.proofs.LimitLaws.{Startable, startable-is}
@@ -16,17 +15,15 @@ use Rattle.matching.specs.Sized.{Accepted}
 use Rattle.measuring.specs.Sized.{Measurable}
 use Rattle.record.specs.declared.Window.{Window}
 use Rattle.relay.specs.declared.Relay.{Relay}
-use Rattle.record.specs.Record.{windowWithin}
 use Rattle.relay.specs.Record.{admissible}
 use Rattle.relay.specs.Calls.{inReach, windowAfter}
-use Rattle.relay.proofs.Admission.{is-T, admitted-is}
+use Rattle.relay.proofs.Admission.{is-T, admitted}
 use Rattle.relay.proofs.Taken.{reach-of, sized-of}
-use Rattle.record.proofs.Placed.{each-sized, placed-each}
-use Rattle.relay.proofs.Below.{matched-bound}
+use Rattle.record.proofs.Placed.{numbers-sized, placed-each}
 
 module _ (r : Relay) (xs : List ℤ) (a : admissible r ≡ true) where
   pub startable-now : T (startable (r .setting))
-  startable-now = is-T (admitted-is r a .sound)
+  startable-now = admitted r a 0
 
   limits-now : Startable (r .setting)
   limits-now = startable-is startable-now
@@ -35,7 +32,7 @@ module _ (r : Relay) (xs : List ℤ) (a : admissible r ≡ true) where
   factors-ready = limits-now .limits
 
   pub few-held : r .window .fill ≤ 12
-  few-held = leb→le (r .window .fill) 12 (hold-at (windowWithin (r .window)) (is-T (admitted-is r a .within)) 0)
+  few-held = leb→le _ _ (admitted r a 1)
 
   module _ (l : length xs ≡ 12) (i : inReach xs ≡ true) where
     pub numbers-ready : (ks : List ℤ) → ks ≡ fourFactors (r .setting) → Accepted (r .setting) ks xs
@@ -52,8 +49,7 @@ module _ (r : Relay) (xs : List ℤ) (a : admissible r ≡ true) where
                 long = long;
                 small =
                     rw e
-                    (placed-each (r .window) (numbers (r .setting) xs)
-                    (each-sized (r .window .values) (hold-at (windowWithin (r .window)) (is-T (admitted-is r a .within)) 1))
-                    (sized-of matched-bound (r .setting) startable-now xs (reach-of (r .setting) xs (is-T i))));
+                    (placed-each (r .window) (numbers (r .setting) xs) (numbers-sized (admitted r a 2))
+                    (sized-of (r .setting) startable-now xs (reach-of (r .setting) xs (is-T i))));
               };
         }

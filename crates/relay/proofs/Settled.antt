@@ -30,7 +30,11 @@ module _ (r : Relay) (w : Window) where
       (s : c ≡ elementAfter (r .setting .confirm) (counts (r .setting) (m .c .d) (m .c .start) (m .c .blocked)) (r .trip .c)) where
     pub measured-reply :
         _≡_ {A = Outcome Reply}
-        (gives (measured (record { reading = m .a; latched = a .latch }) (record { reading = m .b; latched = b .latch }) (record { reading = m .c; latched = c .latch })))
+        (gives
+        (measured
+        (record { reading = m .a; latched = a .latch })
+        (record { reading = m .b; latched = b .latch })
+        (record { reading = m .c; latched = c .latch })))
         (gives (replyNow r w))
     unfolding replyNow readingsOf readingOf
     measured-reply = rw (p, q, s, e, full-now)

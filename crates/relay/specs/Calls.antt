@@ -9,11 +9,11 @@ use lib.ListN.{length, drop}
 use Rattle.integer.specs.Tests.{each, eqZ, Each}
 use Rattle.refusal.specs.Refusals.{numberOf, Outcome, gives, declines, byOutcome, Row, _when_, firstOf, noneApplies, firstRefusal}
 use Rattle.refusal.specs.Refusals as R
-use Rattle.setting.specs.declared.End.{End}
 use Rattle.setting.specs.declared.Setting.{Setting}
 use Rattle.setting.specs.Values.{startRows, fields}
 use Rattle.setting.specs.Calls.{Wrong}
 use Rattle.setting.specs.Limits.{fourFactors}
+pub use Rattle.setting.specs.Worked.{blank}
 use Rattle.matching.specs.Sets.{System, sysA, sysB, sysC, numbers}
 use Rattle.record.specs.declared.Element.{Element}
 use Rattle.record.specs.declared.Window.{Window}
@@ -137,27 +137,6 @@ pub record Resets (r : Relay) (s : Returned) : Type 0 where
   pub relay : s .relay ≡ resetRelay r
 
 -- ---- starting a fresh relay from setting values: 4 to 7, and then a blank record, on which every call declines with 12
-
-abbrev pub blank : Setting
-blank =
-    let e : End = record { voltage = 0; current = 0; group = 0; filter = 0 } in
-    record {
-      ends = 0;
-      flags = 0;
-      confirm = 0;
-      power = 0;
-      e0 = e;
-      e1 = e;
-      e2 = e;
-      e3 = e;
-      basic = 0;
-      high = 0;
-      slope1 = 0;
-      slope2 = 0;
-      third = 0;
-      second = 0;
-      fifth = 0;
-    }
 
 abbrev pub startReply : Setting → Outcome (Unit {0})
 startReply v = firstRefusal (startRows v)

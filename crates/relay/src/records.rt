@@ -14,11 +14,15 @@ pub fn admissible(r: Relay) -> bool
 {
     let v = r.setting;
     let w = r.window;
+    let values = w.values;
     let t = r.trip;
     if !setting::judging::sound(v) {
         return false;
     }
-    if !record::window_within(w) {
+    if 12 < w.fill {
+        return false;
+    }
+    if !record::numbers_within(&values) {
         return false;
     }
     record::counters_within(v.confirm, t)

@@ -1,84 +1,102 @@
--- Filing a set: the window of the sets held becomes the window of the last twelve of them and the new one.
+-- The window of a list of sets, twelve numbers a set laid out flat. Filing a set: the window of the last twelve of some sets becomes that of the last
+-- twelve of these and the new one.
 use mathlib.Core.Path.{_≡_, refl, sym, ap, _∙_}
 use mathlib.Core.Bool.{Bool, true, false}
 use mathlib.Core.List.{List, [], _∷_, _++_, append-assoc, append-nil, flatten}
-use Prim.Native.Nat.{ℕ, suc, _+_, _*_, _-_, _≤_, _<_}
+use Prim.Native.Nat.{ℕ, zero, suc, _+_, _*_, _-_, _≤_, _<_}
 use native.Mathlib.Omega.{arith}
 use lib.Dec.{ltb}
 use borrow.Author.Tests.{lt-ltb, le-ltb, ltb-true, ltb-false}
 use lib.IntN.{ℤ, pos}
-use lib.ListN.{length, take, drop, replicate, length-append, length-drop}
-use lib.Seq.{take-at, drop-append-add, drop-append-le, drop-drop}
+use lib.ListN.{length, getD, take, drop, replicate, length-append, length-drop, List·getD-append, replicate-append-replicate}
+use lib.Seq.{take-at, drop-at, drop-append-add, drop-append-le, getD-append-add}
 use Rattle.integer.specs.Tests.{Each, none, _&_}
-use Rattle.integer.proofs.TestLaws.{each-append, each-drop}
+use Rattle.integer.proofs.Places.{drop-next}
+use Rattle.integer.proofs.TestLaws.{each-drop}
 use Rattle.record.specs.declared.Window.{Window}
 use Rattle.record.specs.Record.{placed}
 use Rattle.stability.specs.Lists.{last12, windowOf}
-use Rattle.stability.proofs.FlatLists.{Twelve, flat-append, flat-one, flat-length, flat-drop, drop-replicate}
 
--- the last twelve of the sets held and one more
-unfoldable pub push : List (List ℤ) → List ℤ → List (List ℤ)
-push ws ns = drop (length ws - 11) (ws ++ (ns ∷ []))
+-- ---- sets laid out flat
 
-pub push-last : (l : List (List ℤ)) (ns : List ℤ) → push (last12 l) ns ≡ last12 (l ++ (ns ∷ []))
-unfolding push last12
-push-last l ns =
-    let n = length l - 12 in
-    let L = l ++ (ns ∷ []) in
-    let e : n + (length (drop n l) - 11) ≡ length L - 12 = simp (length-drop, length-append) (omega arith) in
-    ap (λ (k : List (List ℤ)). drop (length (drop n l) - 11) k) (sym (drop-append-le n l (ns ∷ []) (omega arith)))
-    ∙ drop-drop (length (drop n l) - 11) n L
-    ∙ ap (λ (k : ℕ). drop k L) e
+abbrev pub Twelve : List ℤ → Type 0
+Twelve ns = length ns ≡ 12
 
-pub push-few : (ws : List (List ℤ)) (ns : List ℤ) → length ws ≤ 12 → length (push ws ns) ≤ 12
-unfolding push
-push-few ws ns h = simp (length-drop, length-append) (omega arith)
+last12-length : (ws : List (List ℤ)) → 12 ≤ length ws → length (last12 ws) ≡ 12
+unfolding last12
+last12-length ws h = simp length-drop (omega arith)
 
-pub each-push : {P : List ℤ → Type 0} (ws : List (List ℤ)) (ns : List ℤ) → Each P ws → P ns → Each P (push ws ns)
-unfolding push
-each-push ws ns h p = each-drop (each-append h (p & none)) (length ws - 11)
+pub each-last12 : {P : List ℤ → Type 0} {ws : List (List ℤ)} → Each P ws → Each P (last12 ws)
+unfolding last12
+each-last12 {ws = ws} h = each-drop h (length ws - 12)
 
-window-same : (a b : List ℤ) (m n : ℕ) → a ≡ b → m ≡ n → _≡_ {A = Window} (record { values = a; fill = m }) (record { values = b; fill = n })
-window-same a b m n p q = λ i. record { values = p i; fill = q i }
+flat-length : {ws : List (List ℤ)} → Each Twelve ws → length (flatten ws) ≡ 12 * length ws
+unfolding flatten
+flat-length none = refl
+flat-length (_&_ {a = w} {l = ws} e h) = length-append w (flatten ws) ∙ omega (arith, e, flat-length h)
 
-module _ (ws : List (List ℤ)) (ns : List ℤ) (each : Each Twelve ws) where
+-- one set more
+flat-snoc : (ws : List (List ℤ)) (ns : List ℤ) → flatten (ws ++ (ns ∷ [])) ≡ flatten ws ++ ns
+unfolding flatten
+flat-snoc [] ns = append-nil ns
+flat-snoc (w ∷ ws) ns = ap (λ (l : List ℤ). w ++ l) (flat-snoc ws ns) ∙ sym (append-assoc w (flatten ws) ns)
+
+-- number j of set k
+pub flat-at : {ws : List (List ℤ)} → Each Twelve ws → (rest : List ℤ) (k j : ℕ) → k < length ws → j < 12 →
+    getD (flatten ws ++ rest) (12 * k + j) (pos 0) ≡ getD (getD ws k []) j (pos 0)
+unfolding flatten
+flat-at none rest k j h l = absurd (omega arith)
+flat-at (_&_ {a = w} {l = ws} e hs) rest zero j h l =
+    let i : 12 * 0 + j ≡ j = omega arith in
+    rw (i, append-assoc w (flatten ws) rest) (List·getD-append w (flatten ws ++ rest) (pos 0) j (omega arith))
+flat-at (_&_ {a = w} {l = ws} e hs) rest (suc k) j h l =
+    let i : 12 * suc k + j ≡ length w + (12 * k + j) = omega arith in
+    rw (i, append-assoc w (flatten ws) rest) (getD-append-add w (flatten ws ++ rest) (12 * k + j) (pos 0)) ∙ flat-at hs rest k j (omega arith) l
+
+-- ---- filing
+
+window-same : {a b : List ℤ} {m n : ℕ} → a ≡ b → m ≡ n → _≡_ {A = Window} (record { values = a; fill = m }) (record { values = b; fill = n })
+window-same p q = λ i. record { values = p i; fill = q i }
+
+module _ {ws : List (List ℤ)} (ns : List ℤ) where
   -- while there is room
-  room : length ws < 12 → placed (windowOf ws) ns ≡ windowOf (push ws ns)
-  unfolding placed windowOf push
-  room h =
+  room : Each Twelve ws → length ws < 12 → placed (windowOf ws) ns ≡ windowOf (ws ++ (ns ∷ []))
+  unfolding placed windowOf
+  room each h =
       let n = length ws in
-      let none-gone : n - 11 ≡ 0 = omega arith in
-      let more : length (ws ++ (ns ∷ [])) ≡ n + 1 = length-append ws (ns ∷ []) in
+      let m = 144 - 12 * (n + 1) in
       let zeros = replicate (144 - 12 * n) (pos 0) in
+      let more : length (ws ++ (ns ∷ [])) ≡ n + 1 = length-append ws (ns ∷ []) in
+      let left : 144 - 12 * n ≡ 12 + m = omega arith in
+      let at : 12 * n + 12 ≡ length (flatten ws) + 12 = omega (arith, flat-length each) in
       let front : take (12 * n) (flatten ws ++ zeros) ≡ flatten ws = take-at (flatten ws) zeros (12 * n) (flat-length each) in
-      let at12 : 12 * n + 12 ≡ length (flatten ws) + 12 = omega (arith, flat-length each) in
-      let left : (144 - 12 * n) - 12 ≡ 144 - 12 * (n + 1) = omega arith in
-      let back : drop (12 * n + 12) (flatten ws ++ zeros) ≡ replicate (144 - 12 * (n + 1)) (pos 0) =
-      rw at12 (drop-append-add (flatten ws) zeros 12 ∙ drop-replicate 12 (144 - 12 * n) (omega arith) ∙ ap (λ (k : ℕ). replicate k (pos 0)) left) in
-      let flat : flatten (ws ++ (ns ∷ [])) ≡ flatten ws ++ ns = flat-append ws (ns ∷ []) ∙ ap (λ (l : List ℤ). flatten ws ++ l) (flat-one ns) in
-      rw (lt-ltb n 12 h, none-gone)
-      (window-same _ _ _ _
-      (rw (front, back, flat, more) (sym (append-assoc (flatten ws) ns (replicate (144 - 12 * (n + 1)) (pos 0)))))
-      (sym more))
+      let back : drop (12 * n + 12) (flatten ws ++ zeros) ≡ replicate m (pos 0) =
+      rw (at, drop-append-add (flatten ws) zeros 12, left, ← (replicate-append-replicate 12 m (pos 0))) (drop-at (replicate 12 (pos 0)) _ 12 refl) in
+      rw (lt-ltb n 12 h) (window-same (rw (front, back, flat-snoc ws ns, more) (sym (append-assoc (flatten ws) ns _))) (sym more))
 
--- once twelve are held
-oldest-gone : (ws : List (List ℤ)) (ns : List ℤ) → Each Twelve ws → length ws ≡ 12 → placed (windowOf ws) ns ≡ windowOf (push ws ns)
-unfolding placed windowOf push
-oldest-gone [] ns each e = absurd (omega arith)
-oldest-gone (w ∷ ws) ns (one & each) e =
-    let n : suc (length ws) ≡ 12 = e in
-    let gone : length (w ∷ ws) - 11 ≡ 1 = omega arith in
-    let more : length (ws ++ (ns ∷ [])) ≡ 12 = length-append ws (ns ∷ []) ∙ omega arith in
-    let no-zeros : 144 - 12 * length (w ∷ ws) ≡ 0 = omega arith in
-    let flat : flatten (ws ++ (ns ∷ [])) ≡ flatten ws ++ ns = flat-append ws (ns ∷ []) ∙ ap (λ (l : List ℤ). flatten ws ++ l) (flat-one ns) in
-    rw (le-ltb (length (w ∷ ws)) 12 (omega arith), gone, more)
-    (window-same _ _ _ _
-    (rw (no-zeros, flat, append-nil (flatten (w ∷ ws))) (ap (λ (l : List ℤ). l ++ ns) (flat-drop w ws one) ∙ sym (append-nil (flatten ws ++ ns))))
-    refl)
+  -- once twelve are held
+  oldest-gone : {w : List ℤ} → Each Twelve (w ∷ ws) → length ws ≡ 11 → placed (windowOf (w ∷ ws)) ns ≡ windowOf (ws ++ (ns ∷ []))
+  unfolding placed windowOf flatten
+  oldest-gone {w} (one & each) e =
+      let full : length (w ∷ ws) ≡ 12 = omega arith in
+      let more : length (ws ++ (ns ∷ [])) ≡ 12 = length-append ws (ns ∷ []) ∙ omega arith in
+      rw (le-ltb (length (w ∷ ws)) 12 (omega arith), full, more, flat-snoc ws ns, append-nil (w ++ flatten ws), drop-at w (flatten ws) 12 one)
+      (window-same (sym (append-nil (flatten ws ++ ns))) refl)
 
-pub filed-window : (ws : List (List ℤ)) (ns : List ℤ) → Each Twelve ws → length ws ≤ 12 → placed (windowOf ws) ns ≡ windowOf (push ws ns)
-filed-window ws ns each h = by (ltb (length ws) 12) refl
+pub filed-window : {ws : List (List ℤ)} → Each Twelve ws → (ns : List ℤ) → placed (windowOf (last12 ws)) ns ≡ windowOf (last12 (ws ++ (ns ∷ [])))
+unfolding last12
+filed-window {ws} each ns = by (ltb (length ws) 12) refl
   where
-    by : (b : Bool) → ltb (length ws) 12 ≡ b → placed (windowOf ws) ns ≡ windowOf (push ws ns)
-    by true e = room ws ns each (omega (arith, ltb-true (length ws) 12 e))
-    by false e = oldest-gone ws ns each (omega (arith, ltb-false (length ws) 12 e))
+    by : (b : Bool) → ltb (length ws) 12 ≡ b → placed (windowOf (last12 ws)) ns ≡ windowOf (last12 (ws ++ (ns ∷ [])))
+    by true e =
+        let few = ltb-true (length ws) 12 e in
+        let all : length ws - 12 ≡ 0 = omega arith in
+        let all-new : length (ws ++ (ns ∷ [])) - 12 ≡ 0 = omega (arith, length-append ws (ns ∷ [])) in
+        rw (all, all-new) (room ns each few)
+    by false e =
+        let many = ltb-false (length ws) 12 e in
+        let n = length ws - 12 in
+        let split : last12 ws ≡ getD ws n [] ∷ drop (n + 1) ws = drop-next ws n [] (omega arith) in
+        let one-more : length (ws ++ (ns ∷ [])) - 12 ≡ n + 1 = omega (arith, length-append ws (ns ∷ [])) in
+        rw (one-more, drop-append-le (n + 1) ws (ns ∷ []) (omega arith), split)
+        (oldest-gone ns (rw split at (each-last12 each)) (omega (arith, last12-length ws many, ap length split)))

@@ -1,7 +1,6 @@
--- Lists of sets laid out flat, what a record holds after a list of calls, the theorems over lists, and the examples beside them.
-mod FlatLists
+-- Lists of sets laid out flat, the window of the last twelve, the theorems over lists of calls, and the examples beside them.
 mod Filing
-mod Holding
-mod Quiet
+mod Demand2
+mod Close
 mod Demand3
 mod Through

@@ -10,11 +10,12 @@ use Rattle.integer.specs.Sum.{sum}
 use Rattle.integer.specs.Lists.{upTo}
 use Rattle.integer.specs.Tests.{eqZ}
 use Rattle.setting.specs.Values.{endOf, above, below, factor, factorHigh, factorsLow, valueRows, fields}
+use Rattle.setting.specs.Worked.{factory}
 use Rattle.matching.specs.Matching.{Three, three, operation, sum3}
 use Rattle.matching.specs.Sets.{System, sysA, sysB, sysC, seen, phases, filtered}
 use Rattle.matching.specs.Bank.{Healthy, NearIdeal, ideal}
 use Rattle.relay.specs.Calls.{setRows}
-use Rattle.stability.specs.ThroughFault.{bank, through, ThroughFault}
+use Rattle.stability.specs.ThroughFault.{through, ThroughFault}
 
 -- what flows in at end 0, in thousandths on the limbs A, B, C; it leaves at end 1
 abbrev flow : ℕ → Three
@@ -36,14 +37,15 @@ over-limbs : (z : ℕ) → z < 2 → sum3 (flow z) ≡ pos 0
 over-limbs zero h = refl
 over-limbs (suc z) h = refl
 
-unfiltered : (z : ℕ) → z < 2 → filtered (endOf bank z) ≡ false → zeroSequence z ≡ pos 0
-unfolding bank
+unfiltered : (z : ℕ) → z < 2 → filtered (endOf factory z) ≡ false → zeroSequence z ≡ pos 0
+unfolding factory
 unfiltered zero h e = absurd (true≢false e)
 unfiltered (suc z) h e = refl
 
-near : (z : ℕ) → z < 2 → (l : System)
-    → NearIdeal (endOf bank z .group) (filtered (endOf bank z)) (above (endOf bank z)) (below bank) (seen l (flow z)) (zeroSequence z) (seen l (phases through z) .p)
-unfolding bank through seen ideal operation
+near : (z : ℕ) → z < 2 → (l : System) →
+    let e = endOf factory z in
+    NearIdeal (e .group) (filtered e) (above e) (below factory) (seen l (flow z)) (zeroSequence z) (seen l (phases through z) .p)
+unfolding factory through seen ideal operation
 near zero h sysA = record { size = lit≤ tt }
 near zero h sysB = record { size = lit≤ tt }
 near zero h sysC = record { size = lit≤ tt }
@@ -64,8 +66,8 @@ others (suc (suc (suc zero))) h k sysB = refl
 others (suc (suc (suc zero))) h k sysC = refl
 others (suc (suc (suc (suc z)))) h k l = absurd (omega arith)
 
-healthy : Healthy bank through
-unfolding bank
+healthy : Healthy factory through
+unfolding factory
 healthy =
     record {
       w = flow;
@@ -78,5 +80,5 @@ healthy =
     }
 
 pub through-fault : ThroughFault
-unfolding ThroughFault bank through factor factorHigh factorsLow valueRows fields nearest floor upTo setRows eqZ
+unfolding ThroughFault factory through factor factorHigh factorsLow valueRows fields nearest floor upTo setRows eqZ
 through-fault = (tt, tt, healthy)

@@ -5,9 +5,9 @@ use mathlib.Core.Bool.{Bool, true, false}
 use mathlib.Core.List.{List, [], _∷_, _++_}
 use lib.IntN.{pos}
 use lib.ListN.{replicate}
-use Rattle.setting.specs.declared.End.{End}
 use Rattle.setting.specs.declared.Setting.{Setting}
 use Rattle.setting.specs.Values.{startable, factor, factorHigh, factorsLow, valueRows, fields}
+use Rattle.setting.specs.Worked.{rated, twoEnds}
 use Rattle.integer.specs.Nearest.{nearest, floor}
 use Rattle.integer.specs.Root.{rootBy}
 use Rattle.integer.specs.Sum.{sum}
@@ -21,35 +21,12 @@ use Rattle.measuring.specs.Measuring.{twiceRestraint, harmonics, blocked}
 use Rattle.record.specs.Record.{elementOf, elementAfter, placed}
 use Rattle.relay.specs.Record.{fresh, admissible}
 use Rattle.relay.specs.Calls.{setRows, sampleRows, relayNow}
-use Rattle.stability.specs.Lists.{Call, sample, run}
+use Rattle.relay.specs.Lists.{Call, sample, run}
 use Rattle.stability.specs.Stability.{HealthyCall}
 
 -- two ends of group 0 with K 65,536, no filter, no blocking, M 1, P 200, m1 30, H 8,000
-abbrev rated : End
-rated = record { voltage = 780; current = 1000; group = 0; filter = 0 }
-
-abbrev pub unused : End
-unused = record { voltage = 0; current = 0; group = 0; filter = 0 }
-
 pub plain : Setting
-plain =
-    record {
-      ends = 2;
-      flags = 0;
-      confirm = 1;
-      power = 1351;
-      e0 = rated;
-      e1 = rated;
-      e2 = unused;
-      e3 = unused;
-      basic = 200;
-      high = 8000;
-      slope1 = 30;
-      slope2 = 70;
-      third = 4000;
-      second = 15;
-      fifth = 30;
-    }
+plain = twoEnds 1351 (rated 780 1000) (rated 780 1000)
 
 -- twelve zero sets but for 3,000 on phase A of end 0 in the last
 pub fault : List Call

@@ -1,7 +1,7 @@
--- Lists of calls from a fresh relay, and demand 2 over them (00, demands 2 and 3; 01, "An afternoon with a reviewer").
+-- Demand 2 over lists of calls from a fresh relay (00, demand 2; 01, "An afternoon with a reviewer").
 use mathlib.Core.Path.{_≡_}
 use mathlib.Core.Bool.{cond}
-use mathlib.Core.List.{List, [], _∷_, _++_, flatten}
+use mathlib.Core.List.{List, [], _∷_, _++_, flatten, foldl}
 use Prim.Native.Nat.{_*_, _-_}
 use lib.Dec.{T}
 use lib.IntN.{ℤ, pos}
@@ -11,34 +11,17 @@ use Rattle.setting.specs.declared.Setting.{Setting}
 use Rattle.setting.specs.Values.{startable}
 use Rattle.matching.specs.Sets.{numbers}
 use Rattle.record.specs.declared.Window.{Window}
-use Rattle.relay.specs.declared.Relay.{Relay}
 use Rattle.relay.specs.Record.{fresh}
-use Rattle.relay.specs.Calls.{accepted, replyNow, sampleReply, sampleRelay, resetRelay}
+use Rattle.relay.specs.Calls.{accepted, replyNow, sampleReply}
+use Rattle.relay.specs.Lists.{Call, sample, reset, run}
 
--- A sample call with any list of numbers, or a reset.
-pub data Call : Type 0 where
-  sample : List ℤ → Call
-  reset : Call
-
--- the record that a call returns; each call gets the one that the call before returned
-abbrev pub after : Relay → Call → Relay
-after r (sample xs) = sampleRelay r xs
-after r reset = resetRelay r
-
-abbrev pub run : Relay → List Call → Relay
-run r [] = r
-run r (c ∷ cs) = run (after r c) cs
-
--- ---- demand 2 over the list
-
--- the matched numbers of the accepted sets of a list, in order
-abbrev pub filedBy : Setting → Call → List (List ℤ)
-filedBy v (sample xs) = cond (accepted v xs) (numbers v xs ∷ []) []
-filedBy v reset = []
+-- The accepted sets of a list, by their matched numbers, in order: those so far, and what a call adds.
+abbrev pub filing : Setting → List (List ℤ) → Call → List (List ℤ)
+filing v ws (sample xs) = cond (accepted v xs) (ws ++ (numbers v xs ∷ [])) ws
+filing v ws reset = ws
 
 abbrev pub filed : Setting → List Call → List (List ℤ)
-filed v [] = []
-filed v (c ∷ cs) = filedBy v c ++ filed v cs
+filed v cs = foldl (filing v) [] cs
 
 -- the last twelve of them, or all where there are fewer
 unfoldable pub last12 : List (List ℤ) → List (List ℤ)

@@ -2,7 +2,7 @@
 use mathlib.Core.Path.{_≡_}
 use mathlib.Core.Logic.{_≢_}
 use mathlib.Core.Bool.{false}
-use mathlib.Core.List.{List, [], _∷_}
+use mathlib.Core.List.{List}
 use Prim.Native.Nat.{_≤_}
 use lib.Dec.{T}
 use Rattle.integer.specs.Tests.{Each}
@@ -17,7 +17,7 @@ use Rattle.relay.specs.declared.Relay.{Relay}
 use Rattle.record.specs.Record.{elementOf}
 use Rattle.relay.specs.Record.{fresh}
 use Rattle.relay.specs.Calls.{accepted, Reply, filling, measured, sampleReply, resetReply}
-use Rattle.stability.specs.Lists.{Call, sample, reset, after}
+use Rattle.relay.specs.Lists.{Call, sample, reset, Every}
 
 -- each accepted set is that of a healthy bank
 abbrev pub HealthyCall : Setting → Call → Type 0
@@ -51,12 +51,8 @@ CalmCall v r reset = Not12 (resetReply r)
 abbrev pub NoLatch : Relay → Type 0
 NoLatch r = (l : System) → elementOf (r .trip) l .latch ≡ false
 
--- every record of the list, the first included, and every answer
-abbrev pub Stays : Setting → Relay → List Call → Type 0
-Stays v r [] = NoLatch r
-Stays v r (c ∷ cs) = NoLatch r × (CalmCall v r c × Stays v (after r c) cs)
-
 -- Start a relay on any setting that it accepts, and take every list of sample and reset calls, refused ones included. Where each accepted set
--- is that of a healthy bank, nothing starts, nothing trips, and D keeps its limit.
+-- is that of a healthy bank, no record of the list, the first included, has a latch, and every answer is calm: nothing starts, nothing trips, and D
+-- keeps its limit.
 unfoldable pub Stability : Type 0
-Stability = (v : Setting) → T (startable v) → (cs : List Call) → Each (HealthyCall v) cs → Stays v (fresh v) cs
+Stability = (v : Setting) → T (startable v) → (cs : List Call) → Each (HealthyCall v) cs → Every NoLatch (CalmCall v) (fresh v) cs

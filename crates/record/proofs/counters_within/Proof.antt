@@ -1,32 +1,29 @@
 -- `record::counters_within` meets its contract: one counter after the other.
-use borrow.Author.Tests.{le-leb, lt-leb}
-use mathlib.Core.Bool.{and-true, false}
-use mathlib.Core.List.{[], _∷_}
-use mathlib.Core.Path.{_≡_, sym}
-use Prim.Native.Nat.{ℕ, _≤_, _<_}
-use lib.Dec.{leb}
-use Rattle.integer.specs.Tests.{hold}
+use borrow.Author.Tests.{lt-leb}
+use lib.Dec.{le→leb}
+use lib.ListN.{take}
+use Rattle.integer.specs.Tests.{none, _&_}
+use Rattle.integer.proofs.TestLaws.{hold-not, hold-last}
+use Rattle.record.specs.Record.{countersWithin}
 use Rattle.record.proofs.counters_within.Statement.{statement}
 use Rattle.record.proofs.counters_within.Tie as tie
 
-module _ (a b d m : ℕ) where
-  first-above : m < a → false ≡ hold (leb a m ∷ leb b m ∷ leb d m ∷ [])
-  first-above h = rw (lt-leb a m h)
-
-  second-above : a ≤ m → m < b → false ≡ hold (leb a m ∷ leb b m ∷ leb d m ∷ [])
-  second-above h k = rw (le-leb a m h, lt-leb b m k)
-
-  third : a ≤ m → b ≤ m → leb d m ≡ hold (leb a m ∷ leb b m ∷ leb d m ∷ [])
-  third h k = rw (le-leb a m h, le-leb b m k) (sym (and-true (leb d m)))
-
 returns : tie.Need-returns
-returns c = first-above _ _ _ _ (c .if1 .taken)
+returns c =
+    let a = c .before .before .args in
+    hold-not (countersWithin (a .confirm) (a .t)) 0 (lt-leb _ _ (c .if1 .taken))
 
 returns-2 : tie.Need-returns-2
-returns-2 c = second-above _ _ _ _ (c .before .before .if1 .left) (c .if2 .taken)
+returns-2 c =
+    let a = c .before .before .before .before .args in
+    hold-not (countersWithin (a .confirm) (a .t)) 1 (lt-leb _ _ (c .if2 .taken))
 
 returns-3 : tie.Need-returns-3
-returns-3 c = third _ _ _ _ (c .before .before .before .if1 .left) (c .before .if2 .left)
+returns-3 c =
+    let a = c .before .before .before .before .before .args in
+    hold-last (take 2 (countersWithin (a .confirm) (a .t)))
+    (le→leb _ _ (c .before .before .before .if1 .left) & le→leb _ _ (c .before .if2 .left) & none)
+    _
 
 pub counters-within-spec : {M : Type 1} → statement M
 counters-within-spec = tie.close (tie.spec returns returns-2 returns-3)

@@ -29,7 +29,7 @@ add-t10 c = search needs
 
 returns : tie.Need-returns
 unfolding placed
-returns c = (rw (lt-ltb _ _ (c .before .if1 .taken)) (same-values _ _ _ (c .put .ensures)), search needs)
+returns c = record { window = rw (lt-ltb _ _ (c .before .if1 .taken)) (same-values _ _ _ (c .put .ensures)); long = search needs }
 
 shifted-requires : tie.Need-shifted-requires
 shifted-requires c κs = search needs
@@ -41,11 +41,13 @@ returns-2 : tie.Need-returns-2
 unfolding placed
 returns-2 c =
     let a = c .before .before .before .before .args in
-    let l : length (a .w .values) ≡ 144 = search needs in (
-      rw (le-ltb _ _ (c .before .before .if1 .left))
-          (same-values _ _ _ (c .put2 .ensures ∙ put-last (a .w .values) (c .before .shifted .result) (a .ns) l (c .before .shifted .ensures))),
-      search needs,
-    )
+    let l : length (a .w .values) ≡ 144 = search needs in
+    record {
+      window =
+          rw (le-ltb _ _ (c .before .before .if1 .left))
+          (same-values _ _ _ (c .put2 .ensures ∙ put-last (a .w .values) (c .before .shifted .result) (a .ns) l (c .before .shifted .ensures)));
+      long = search needs;
+    }
 
 pub place-spec : {M : Type 1} → statement M
 place-spec = tie.close (tie.spec cast-put mul-put put-requires add-t10 returns shifted-requires put-requires-2 returns-2)

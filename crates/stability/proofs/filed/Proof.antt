@@ -1,5 +1,5 @@
--- `stability::filed`: demand 2 over the list, by Holding.antt.
-use Rattle.stability.proofs.Holding.{window-filed, answered}
+-- `stability::filed`: demand 2 over the list, by Demand2.antt.
+use Rattle.stability.proofs.Demand2.{window-filed, answered}
 use Rattle.stability.proofs.filed.Statement.{statement}
 use Rattle.stability.proofs.filed.Tie as tie
 

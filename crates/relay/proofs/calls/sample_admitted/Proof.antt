@@ -113,7 +113,7 @@ module _ (c : tie.After-place) where
   start = else2 .before .before .before
 
   filed : c .place .result ≡ windowAfter (r start) (xs start)
-  filed = c .place .ensures .0 ∙ ap (λ (ns : List ℤ). placed (r start .window) ns) (c .before .numbers .ensures)
+  filed = c .place .ensures .window ∙ ap (λ (ns : List ℤ). placed (r start .window) ns) (c .before .numbers .ensures)
 
   answered : {s : Sampled} → Gives (gives (replyNow (r start) (c .place .result))) (relayNow (r start) (c .place .result)) s → Samples (r start) (xs start) s
   answered g = taken (r start) (xs start) (passed-4 else3) (c .place .result) filed g
@@ -121,7 +121,7 @@ module _ (c : tie.After-place) where
   measurable : Measurable (r start .setting) (c .place .result .values)
   measurable =
       measure-ready (r start) (xs start) (start .pre .admitted) (else2 .before .before .if1 .left) (reached else2) (c .place .result) filed
-      (c .place .ensures .1)
+      (c .place .ensures .long)
 
   at-most : c .place .result .fill ≤ 12
   at-most = rw filed (placed-fill (r start .window) (numbers (r start .setting) (xs start)))

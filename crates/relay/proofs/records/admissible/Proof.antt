@@ -1,8 +1,10 @@
--- `relay::records::admissible` meets its contract, part by part (Admission.antt).
+-- `relay::records::admissible` meets its contract, test by test (Admission.antt).
 use borrow.Author.Needs.{needs}
-use borrow.Author.Tests.{not-true, not-false}
+use borrow.Author.Tests.{not-true, not-false, lt-leb}
+use lib.Dec.{le→leb}
 use mathlib.Core.Path.{sym, _∙_}
-use Rattle.relay.proofs.Admission.{unsound, not-within, by-counters}
+use Rattle.integer.specs.Tests.{none, _&_}
+use Rattle.relay.proofs.Admission.{is-T, inadmissible, last-admits}
 use Rattle.relay.proofs.records.admissible.Statement.{statement}
 use Rattle.relay.proofs.records.admissible.Tie as tie
 
@@ -10,26 +12,44 @@ sound-requires : tie.Need-sound-requires
 sound-requires c κs = search needs
 
 returns : tie.Need-returns
-returns c = unsound _ (sym (c .before .sound .ensures) ∙ not-true (c .before .sound .result) (c .if1 .taken))
-
-window-within-requires : tie.Need-window-within-requires
-window-within-requires c κs = search needs
+returns c = inadmissible _ 0 (sym (c .before .sound .ensures) ∙ not-true _ (c .if1 .taken))
 
 returns-2 : tie.Need-returns-2
-returns-2 c =
-    not-within _ (sym (c .before .before .before .sound .ensures) ∙ not-false (c .before .before .before .sound .result) (c .before .before .if1 .left))
-    (sym (c .before .window-within .ensures) ∙ not-true (c .before .window-within .result) (c .if2 .taken))
+returns-2 c = inadmissible _ 1 (lt-leb _ _ (c .if2 .taken))
+
+slice-aggregate-numbers-within : tie.Need-slice-aggregate-numbers-within
+slice-aggregate-numbers-within c = search needs
+
+numbers-within-requires : tie.Need-numbers-within-requires
+numbers-within-requires c κs = search needs
+
+returns-3 : tie.Need-returns-3
+returns-3 c = inadmissible _ 2 (sym (c .before .numbers-within .ensures) ∙ not-true _ (c .if3 .taken))
 
 counters-within-requires : tie.Need-counters-within-requires
 counters-within-requires c κs = search needs
 
-returns-3 : tie.Need-returns-3
-returns-3 c =
+returns-4 : tie.Need-returns-4
+returns-4 c =
+    let else3 = c .before in
+    let else2 = else3 .before .before .before in
+    let else1 = else2 .before .before in
     c .counters-within .ensures
-    ∙ by-counters _
-    (sym (c .before .before .before .before .sound .ensures) ∙ not-false (c .before .before .before .before .sound .result) (c .before .before .before .if1 .left))
-    (sym (c .before .before .window-within .ensures) ∙ not-false (c .before .before .window-within .result) (c .before .if2 .left))
+    ∙ last-admits _
+    (is-T (sym (else1 .before .sound .ensures) ∙ not-false _ (else1 .if1 .left))
+    & le→leb _ _ (else2 .if2 .left)
+    & is-T (sym (else3 .before .numbers-within .ensures) ∙ not-false _ (else3 .if3 .left))
+    & none)
 
 pub admissible-spec : {M : Type 1} → statement M
 admissible-spec =
-    tie.close (tie.spec sound-requires returns window-within-requires returns-2 counters-within-requires returns-3)
+    tie.close
+    (tie.spec
+    sound-requires
+    returns
+    returns-2
+    slice-aggregate-numbers-within
+    numbers-within-requires
+    returns-3
+    counters-within-requires
+    returns-4)

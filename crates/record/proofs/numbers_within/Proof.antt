@@ -1,4 +1,4 @@
--- `record::within` meets its contract. The loop's invariant: the numbers from i on are within the bound if and only if all are.
+-- `record::numbers_within` meets its contract. The loop's invariant: the numbers from i on are within the bound if and only if all are.
 use borrow.Author.Needs.{needs}
 use mathlib.Core.Path.{_≡_}
 use Prim.Native.Nat.{_≤_, _-_}
@@ -6,13 +6,13 @@ use lib.ListN.{length, drop}
 use mir.Syntax.{w32}
 use Rattle.integer.specs.Tests.{each}
 use Rattle.block.proofs.Turns.{each-done}
-use Rattle.record.specs.Record.{within800000}
+use Rattle.record.specs.Record.{numberWithin}
 use Rattle.record.proofs.Scans.{below, above, neither}
-use Rattle.record.proofs.within.Statement.{statement}
-use Rattle.record.proofs.within.Tie as tie
+use Rattle.record.proofs.numbers_within.Statement.{statement}
+use Rattle.record.proofs.numbers_within.Tie as tie
 
 abbrev Inv-loop : tie.InvT-loop
-Inv-loop values i₀ i = (i ≤ length values) × (each within800000 (drop i values) ≡ each within800000 values)
+Inv-loop values i₀ i = (i ≤ length values) × (each numberWithin (drop i values) ≡ each numberWithin values)
 
 abbrev μ-loop : tie.MeasureT-loop
 μ-loop values i₀ i = length values - i
@@ -53,7 +53,7 @@ loop-again c = (
 returns-3 : tie.Need-returns-3 Inv-loop μ-loop
 returns-3 c = each-done _ _ _ (c .before .loop .inv .1) (c .loop-test .left)
 
-pub within-spec : {M : Type 1} → statement M
-within-spec =
+pub numbers-within-spec : {M : Type 1} → statement M
+numbers-within-spec =
     tie.close
     (tie.spec Inv-loop μ-loop loop-holds mul-x shared-slice-copy-out-x returns returns-2 add-i loop-less loop-again returns-3)

@@ -1,0 +1,23 @@
+-- Lists of calls (00, demands 2 and 3: each call, declined or not, passes the record it returns to the next).
+use mathlib.Core.List.{List, [], _∷_, foldl}
+use lib.IntN.{ℤ}
+use Rattle.relay.specs.declared.Relay.{Relay}
+use Rattle.relay.specs.Calls.{sampleRelay, resetRelay}
+
+-- A sample call with any list of numbers, or a reset.
+pub data Call : Type 0 where
+  sample : List ℤ → Call
+  reset : Call
+
+-- the record that a call returns; each call gets the one that the call before returned
+abbrev pub after : Relay → Call → Relay
+after r (sample xs) = sampleRelay r xs
+after r reset = resetRelay r
+
+abbrev pub run : Relay → List Call → Relay
+run r cs = foldl after r cs
+
+-- R of every record of a list, the first and those after refusals included, and P of every call
+abbrev pub Every : (R : Relay → Type 0) (P : Relay → Call → Type 0) → Relay → List Call → Type 0
+Every R P r [] = R r
+Every R P r (c ∷ cs) = R r × (P r c × Every R P (after r c) cs)

@@ -1,0 +1,76 @@
+-- Settings that the documents work with, each where more than one crate uses it.
+use Prim.Native.Nat.{ℕ}
+use Rattle.setting.specs.declared.End.{End}
+use Rattle.setting.specs.declared.Setting.{Setting}
+
+-- an end of group 0 with no filter, by V and I (01, "Numbers to meet")
+abbrev pub rated : (voltage current : ℕ) → End
+rated v i = record { voltage = v; current = i; group = 0; filter = 0 }
+
+-- an end that is not in use (01, "The setting block": ends from E on are all zero)
+abbrev pub unused : End
+unused = rated 0 0
+
+-- values that are all zero, of which no relay can be started: a start that is refused leaves them (01, "What the relay declines": no relay)
+abbrev pub blank : Setting
+blank =
+    record {
+      ends = 0;
+      flags = 0;
+      confirm = 0;
+      power = 0;
+      e0 = unused;
+      e1 = unused;
+      e2 = unused;
+      e3 = unused;
+      basic = 0;
+      high = 0;
+      slope1 = 0;
+      slope2 = 0;
+      third = 0;
+      second = 0;
+      fifth = 0;
+    }
+
+-- two ends, by S, with no blocking, M 1, P 200, H 8,000, m1 30, m2 70, Q 4,000 (01, "Numbers to meet" and its bench run); the percents of the
+-- harmonics, which no flag turns on, are 15 and 30
+abbrev pub twoEnds : (power : ℕ) → End → End → Setting
+twoEnds s a b =
+    record {
+      ends = 2;
+      flags = 0;
+      confirm = 1;
+      power = s;
+      e0 = a;
+      e1 = b;
+      e2 = unused;
+      e3 = unused;
+      basic = 200;
+      high = 8000;
+      slope1 = 30;
+      slope2 = 70;
+      third = 4000;
+      second = 15;
+      fifth = 30;
+    }
+
+-- the factory setting (02, card 14): S 40 MVA; 110 kV and 300 A, group 0, filter on; 20 kV and 1,200 A, group 5, filter off
+unfoldable pub factory : Setting
+factory =
+    record {
+      ends = 2;
+      flags = 3;
+      confirm = 2;
+      power = 400;
+      e0 = record { voltage = 1100; current = 300; group = 0; filter = 1 };
+      e1 = record { voltage = 200; current = 1200; group = 5; filter = 0 };
+      e2 = unused;
+      e3 = unused;
+      basic = 200;
+      high = 8000;
+      slope1 = 30;
+      slope2 = 70;
+      third = 4000;
+      second = 20;
+      fifth = 35;
+    }

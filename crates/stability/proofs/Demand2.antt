@@ -1,0 +1,59 @@
+-- Demand 2 over lists of calls. The invariant: the window is that of the last twelve sets filed.
+use mathlib.Core.Path.{_≡_, refl, ap, _∙_}
+use mathlib.Core.List.{List, [], _∷_, _++_, flatten}
+use lib.Dec.{T}
+use lib.IntN.{ℤ}
+use Rattle.integer.specs.Tests.{Each, none, _&_}
+use Rattle.integer.proofs.TestLaws.{is-true, each-append}
+use Rattle.refusal.specs.Refusals.{gives}
+use Rattle.setting.specs.declared.Setting.{Setting}
+use Rattle.setting.specs.Values.{startable}
+use Rattle.matching.specs.Sets.{numbers}
+use Rattle.record.specs.declared.Window.{Window}
+use Rattle.relay.specs.declared.Relay.{Relay}
+use Rattle.relay.specs.Record.{fresh}
+use Rattle.relay.specs.Calls.{windowAfter, replyNow, relayNow, cleared}
+use Rattle.relay.specs.Lists.{Call, run}
+use Rattle.relay.proofs.Cases.{sample-gives}
+use Rattle.relay.proofs.Taken.{numbers-twelve}
+use Rattle.relay.proofs.Kept.{Valid, Step, files, declines, clears}
+use Rattle.relay.proofs.Induction.{Invariant, along, last, any-call}
+use Rattle.stability.specs.Lists.{filing, filed, last12, windowOf, WindowFiled, Answered}
+use Rattle.stability.proofs.Filing.{Twelve, filed-window}
+
+pub record Filed (ws : List (List ℤ)) (r : Relay) : Type 0 where
+  pub window : r .window ≡ windowOf (last12 ws)
+  pub twelves : Each Twelve ws
+
+pub filed-fresh : (v : Setting) → Filed [] (fresh v)
+unfolding fresh last12 windowOf flatten
+filed-fresh v = record { window = refl; twelves = none }
+
+module _ {v : Setting} {ws : List (List ℤ)} {r : Relay} (h : Valid v r) (f : Filed ws r) where
+  -- the window with an accepted set filed
+  pub window-now : (xs : List ℤ) → windowAfter r xs ≡ windowOf (last12 (ws ++ (numbers v xs ∷ [])))
+  window-now xs = rw (h .same, f .window) (filed-window (f .twelves) (numbers v xs))
+
+  pub filed-keeps : {s : Relay} {c : Call} → Step v r c s → Filed (filing v ws c) s
+  unfolding relayNow cleared
+  filed-keeps (files {xs = xs} e o) = rw e (record { window = window-now xs; twelves = each-append (f .twelves) (numbers-twelve v xs & none) })
+  filed-keeps (declines e o) = rw e f
+  filed-keeps (clears o) = record { window = f .window; twelves = f .twelves }
+
+abbrev invariant : (v : Setting) → Invariant v (λ c. Unit {0})
+invariant v =
+    record { State = _; start = []; next = filing v; Inv = Filed; Shown = λ ws r c. Unit {0}; first = filed-fresh v; keeps = λ h f p k. (filed-keeps h f k, tt) }
+
+after-run : (v : Setting) → T (startable v) → (cs : List Call) → Valid v (run (fresh v) cs) × Filed (filed v cs) (run (fresh v) cs)
+after-run v s cs = last (invariant v) (along (invariant v) s (any-call cs))
+
+pub window-filed : WindowFiled
+unfolding WindowFiled
+window-filed v s cs = after-run v s cs .1 .window
+
+pub answered : Answered
+unfolding Answered
+answered v s cs xs t =
+    let (h, f) = after-run v s cs in
+    let r = run (fresh v) cs in
+    sample-gives v r xs (h .ok) (h .same) (is-true t) ∙ ap (λ (w : Window). gives (replyNow r w)) (window-now h f xs)
