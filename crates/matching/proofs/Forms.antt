@@ -13,29 +13,39 @@ use Rattle.integer.proofs.Laws.{ring, within-≤, within-+, within-*, within-se
 use Rattle.integer.proofs.Fill.{place}
 use Rattle.matching.specs.Matching.{Three, three, operation, sum3, lessZero, operated}
 use Rattle.matching.specs.Bank.{ideal}
+use Rattle.matching.specs.Sized.{parts}
 -- the worked numbers, which are checked before what rests on the definitions
 use Rattle.matching.specs.Numbers as numbers
 
 -- ---- sums of three products
 
+abbrev value : (a b c x y z : ℤ) → ℤ
+value a b c x y z = a *ℤ x +ℤ b *ℤ y +ℤ c *ℤ z
+
 module _ (a b c x y z : ℤ) where
-  negated-value : negℤ a *ℤ x +ℤ negℤ b *ℤ y +ℤ negℤ c *ℤ z ≡ negℤ (a *ℤ x +ℤ b *ℤ y +ℤ c *ℤ z)
+  negated-value : value (negℤ a) (negℤ b) (negℤ c) x y z ≡ negℤ (value a b c x y z)
   negated-value = simp ints (omega arith)
 
-  times-value : (k : ℤ) → (k *ℤ a) *ℤ x +ℤ (k *ℤ b) *ℤ y +ℤ (k *ℤ c) *ℤ z ≡ k *ℤ (a *ℤ x +ℤ b *ℤ y +ℤ c *ℤ z)
+  times-value : (k : ℤ) → value (k *ℤ a) (k *ℤ b) (k *ℤ c) x y z ≡ k *ℤ value a b c x y z
   times-value k = simp ring (simp linear (omega arith))
 
-  plus-value : (d e f : ℤ) → (a +ℤ d) *ℤ x +ℤ (b +ℤ e) *ℤ y +ℤ (c +ℤ f) *ℤ z ≡ (a *ℤ x +ℤ b *ℤ y +ℤ c *ℤ z) +ℤ (d *ℤ x +ℤ e *ℤ y +ℤ f *ℤ z)
+  plus-value : (d e f : ℤ) → value (a +ℤ d) (b +ℤ e) (c +ℤ f) x y z ≡ value a b c x y z +ℤ value d e f x y z
   plus-value d e f = simp ring (simp linear (omega arith))
 
-  minus-value : (d e f : ℤ) → (a -ℤ d) *ℤ x +ℤ (b -ℤ e) *ℤ y +ℤ (c -ℤ f) *ℤ z ≡ (a *ℤ x +ℤ b *ℤ y +ℤ c *ℤ z) -ℤ (d *ℤ x +ℤ e *ℤ y +ℤ f *ℤ z)
+  minus-value : (d e f : ℤ) → value (a -ℤ d) (b -ℤ e) (c -ℤ f) x y z ≡ value a b c x y z -ℤ value d e f x y z
   minus-value d e f = simp ring (simp linear (omega arith))
+
+less-plus : (a b d e : ℤ) → (pos 3 *ℤ a -ℤ d) +ℤ (pos 3 *ℤ b -ℤ e) ≡ pos 3 *ℤ (a +ℤ b) -ℤ (d +ℤ e)
+less-plus a b d e = simp ints (omega arith)
+
+less-negated : (a d : ℤ) → negℤ (pos 3 *ℤ a -ℤ d) ≡ pos 3 *ℤ negℤ a -ℤ negℤ d
+less-negated a d = simp ints (omega arith)
 
 -- ---- the value of a form at three numbers
 
 infixl 7 _·_
 unfoldable pub _·_ : Three → Three → ℤ
-f · x = f .p *ℤ x .p +ℤ f .n *ℤ x .n +ℤ f .q *ℤ x .q
+f · x = value (f .p) (f .n) (f .q) (x .p) (x .n) (x .q)
 
 -- p, n and q alone
 abbrev pub own : Three
@@ -94,49 +104,50 @@ linear-less h = linear-- (linear-times (pos 3) h) linear-sum
 
 -- ---- the group operation
 
--- T(g) of the values of three forms is the value of the form whose coefficients are T(g) of theirs: one equation of the lists of twelve
-operation-· : (g : ℕ) → g < 12 → (a b c x : Three) →
-    operation g (a · x) (b · x) (c · x) ≡ three (operation g (a .p) (b .p) (c .p)) (operation g (a .n) (b .n) (c .n)) (operation g (a .q) (b .q) (c .q)) · x
+-- the form whose coefficients are T(g) of those of three forms
+abbrev ofForms : ℕ → (a b c : Three) → Three
+ofForms g a b c = three (operation g (a .p) (b .p) (c .p)) (operation g (a .n) (b .n) (c .n)) (operation g (a .q) (b .q) (c .q))
+
+-- T(g) of the values of three forms is its value: one equation of the lists of twelve
+operation-· : (g : ℕ) → g < 12 → (a b c x : Three) → operation g (a · x) (b · x) (c · x) ≡ ofForms g a b c · x
 unfolding operation _·_ upTo
 operation-· g l a b c x =
-    place
-    (pos 0)
-    (λ k. three (operation k (a .p) (b .p) (c .p)) (operation k (a .n) (b .n) (c .n)) (operation k (a .q) (b .q) (c .q)) · x)
-    {t = upTo 12 (λ k. operation k (a · x) (b · x) (c · x))}
-    (simp (minus-value, negated-value))
-    g
-    l
+    place (pos 0) (λ k. ofForms k a b c · x) {t = upTo 12 (λ k. operation k (a · x) (b · x) (c · x))} (simp (minus-value, negated-value)) g l
+
+-- T(g) of three numbers less d, three times, is that of the numbers less that of d
+pub operation-less : (g : ℕ) → g < 12 → (a b c d : ℤ) →
+    operation g (pos 3 *ℤ a -ℤ d) (pos 3 *ℤ b -ℤ d) (pos 3 *ℤ c -ℤ d) ≡ pos 3 *ℤ operation g a b c -ℤ operation g d d d
+unfolding operation upTo
+operation-less g l a b c d =
+    place (pos 0) (λ k. pos 3 *ℤ operation k a b c -ℤ operation k d d d)
+    {t = upTo 12 (λ k. operation k (pos 3 *ℤ a -ℤ d) (pos 3 *ℤ b -ℤ d) (pos 3 *ℤ c -ℤ d))} (simp (less-plus, less-negated)) g l
 
 pub linear-operation : (g : ℕ) → g < 12 → {a b c : Three → ℤ} → Linear a → Linear b → Linear c → Linear (λ x. operation g (a x) (b x) (c x))
 linear-operation g m {a} {b} {c} h k l =
     record { is = λ x. rw (h .is x, k .is x, l .is x) (operation-· g m (formOf a) (formOf b) (formOf c) x) }
 
--- ---- what the matching multiplies, and the ideal currents
+pub linear-group : (g : ℕ) → g < 12 → Linear (λ x. operation g (x .p) (x .n) (x .q))
+linear-group g h = linear-operation g h linear-p linear-n linear-q
 
-pub linear-operated : (e f : Bool) (g : ℕ) → g < 12 → Linear (λ x. operated e f g x .top)
-unfolding operated
-linear-operated true false g h = linear-operation g h linear-p linear-n linear-q
-linear-operated true true g h = linear-operation g h (linear-less linear-p) (linear-less linear-n) (linear-less linear-q)
-linear-operated false true g h = linear-times (pos 780) (linear-operation g h linear-p linear-n linear-q)
-linear-operated false false g h =
-    linear-+ (linear-times (pos 3) (linear-times (pos 780) (linear-operation g h linear-p linear-n linear-q))) (linear-times (pos 1351) linear-sum)
+-- ---- what the matching multiplies, in parts of 4053, and the ideal currents
 
-pub operated-over : (e f : Bool) (g : ℕ) (x y : Three) → operated e f g x .over ≡ operated e f g y .over
+pub linear-parts : (e f : Bool) (g : ℕ) → g < 12 → Linear (λ x. parts (operated e f g x))
 unfolding operated
-operated-over true false g x y = refl
-operated-over true true g x y = refl
-operated-over false true g x y = refl
-operated-over false false g x y = refl
+linear-parts true false g h = linear-times (pos 4053) (linear-group g h)
+linear-parts true true g h = linear-times (pos 1351) (linear-operation g h (linear-less linear-p) (linear-less linear-n) (linear-less linear-q))
+linear-parts false true g h = linear-times (pos 3) (linear-times (pos 780) (linear-group g h))
+linear-parts false false g h =
+    linear-times (pos 1) (linear-+ (linear-times (pos 3) (linear-times (pos 780) (linear-group g h))) (linear-times (pos 1351) linear-sum))
 
 pub linear-ideal : (e f : Bool) (g : ℕ) → Linear (λ w. ideal e f g w .top)
 unfolding ideal
-linear-ideal true f g = linear-operation ((12 - g) % 12) (mod-lt (12 - g) (omega arith)) linear-p linear-n linear-q
-linear-ideal false f g = linear-times (pos 1351) (linear-operation ((12 - g) % 12) (mod-lt (12 - g) (omega arith)) linear-p linear-n linear-q)
+linear-ideal true f g = linear-group ((12 - g) % 12) (mod-lt (12 - g) (omega arith))
+linear-ideal false f g = linear-times (pos 1351) (linear-group ((12 - g) % 12) (mod-lt (12 - g) (omega arith)))
 
-pub ideal-over : (e f : Bool) (g : ℕ) (w u : Three) → ideal e f g w .over ≡ ideal e f g u .over
+pub ideal-under : (e f : Bool) (g : ℕ) (w u : Three) → ideal e f g w .under ≡ ideal e f g u .under
 unfolding ideal
-ideal-over true f g w u = refl
-ideal-over false f g w u = refl
+ideal-under true f g w u = refl
+ideal-under false f g w u = refl
 
 -- ---- sizes
 

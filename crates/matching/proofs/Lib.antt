@@ -2,5 +2,6 @@
 mod Bits
 mod Forms
 mod Rows
+mod Parts
 mod OneEnd
 pub mod Total

@@ -13,22 +13,21 @@ use Rattle.integer.proofs.TestLaws.{hold-at, every-at, when, eqZ→≡}
 use Rattle.matching.specs.Matching.{Three, three, operation, even, sum3, operated}
 use Rattle.matching.specs.Sets.{turned}
 use Rattle.matching.specs.Bank.{ideal}
-use Rattle.matching.specs.Sized.{Small}
-use Rattle.matching.proofs.Forms.{_·_, own, next, before, formOf, linear-p, linear-n, linear-q, linear-operation, size, form-within}
+use Rattle.matching.specs.Sized.{Small, parts}
+use Rattle.matching.proofs.Forms.{_·_, own, next, before, formOf, linear-group, size, form-within}
 
--- ---- the two forms of a pair, each over a whole number
+-- ---- the two forms of a pair
 
-pub record Over : Type 0 where
-  pub form : Three
-  pub over : ℕ
+-- what K/65,536 multiplies, in parts of 4053
+abbrev pub matching : ℕ → Bool → Three
+matching g f = formOf (λ x. parts (operated (even g) f g x))
 
--- what K/65,536 multiplies
-abbrev pub matching : ℕ → Bool → Over
-matching g f = record { form = formOf (λ x. operated (even g) f g x .top); over = operated (even g) f g own .over }
+-- k times the ideal currents, and what they are over
+abbrev pub currents : ℕ → Bool → Three
+currents g f = formOf (λ w. ideal (even g) f g w .top)
 
--- k times the ideal currents
-abbrev pub currents : ℕ → Bool → Over
-currents g f = record { form = formOf (λ w. ideal (even g) f g w .top); over = ideal (even g) f g own .over }
+abbrev pub currentsUnder : ℕ → Bool → ℕ
+currentsUnder g f = ideal (even g) f g own .under
 
 -- what the form t gives of w at each of the three phases
 abbrev pub spread : Three → Three → Three
@@ -36,29 +35,27 @@ spread t w = three (t · w) (t · turned w) (t · turned (turned w))
 
 -- what the matching makes of the ideal currents of w
 abbrev pub chain : ℕ → Bool → Three → ℤ
-chain g f w = matching g f .form · spread (currents g f .form) w
+chain g f w = matching g f · spread (currents g f) w
 
 -- ---- what holds of each pair
 
 pub record Row (g : ℕ) (f : Bool) : Type 0 where
-  pub some : 0 < matching g f .over
-  pub least : 0 < currents g f .over
-  -- the sizes of the coefficients sum to at most 6031/4053
-  pub small : 4053 * size (matching g f .form) ≤ 6031 * matching g f .over
+  pub least : 0 < currentsUnder g f
+  -- the sizes of the coefficients sum to at most 6031 parts
+  pub small : size (matching g f) ≤ 6031
   -- the filter takes out what is the same on the three phases
-  pub flat : f ≡ true → sum3 (matching g f .form) ≡ pos 0
+  pub flat : f ≡ true → sum3 (matching g f) ≡ pos 0
   -- the matching undoes the bank's operation, up to the same multiple of each limb
-  pub alone : chain g f own ≡ pos (currents g f .over * matching g f .over) +ℤ chain g f next
+  pub alone : chain g f own ≡ pos (currentsUnder g f * 4053) +ℤ chain g f next
   pub level : chain g f before ≡ chain g f next
 
 -- the test of a pair
 facts : Bool → ℕ → List Bool
 facts f g =
-    ltb 0 (matching g f .over)
-    ∷ ltb 0 (currents g f .over)
-    ∷ leb (4053 * size (matching g f .form)) (6031 * matching g f .over)
-    ∷ cond f (eqZ (sum3 (matching g f .form)) (pos 0)) true
-    ∷ eqZ (chain g f own) (pos (currents g f .over * matching g f .over) +ℤ chain g f next)
+    ltb 0 (currentsUnder g f)
+    ∷ leb (size (matching g f)) 6031
+    ∷ cond f (eqZ (sum3 (matching g f)) (pos 0)) true
+    ∷ eqZ (chain g f own) (pos (currentsUnder g f * 4053) +ℤ chain g f next)
     ∷ eqZ (chain g f before) (chain g f next)
     ∷ []
 
@@ -72,12 +69,11 @@ unfolding facts
 row g f l =
     let at = hold-at (facts f g) (every-at 12 (λ g. hold (facts f g)) (checked f) g l) in
     record {
-      some = ltb→lt _ _ (at 0);
-      least = ltb→lt _ _ (at 1);
-      small = leb→le _ _ (at 2);
-      flat = λ e. eqZ→≡ _ _ (when f _ (at 3) e);
-      alone = eqZ→≡ _ _ (at 4);
-      level = eqZ→≡ _ _ (at 5);
+      least = ltb→lt _ _ (at 0);
+      small = leb→le _ _ (at 1);
+      flat = λ e. eqZ→≡ _ _ (when f _ (at 2) e);
+      alone = eqZ→≡ _ _ (at 3);
+      level = eqZ→≡ _ _ (at 4);
     }
 
 -- ---- the twelve groups: the sizes of the coefficients sum to at most 2
@@ -92,5 +88,5 @@ two-at-most = tt
 pub operation-within : {g : ℕ} {p n q : ℤ} → g < 12 → Small p n q → operation g p n q within 2 ^ 21
 operation-within {g} {p} {n} {q} l s =
     let two : size (ofGroup g) ≤ 2 = leb→le _ _ (every-at 12 (λ g. leb (size (ofGroup g)) 2) two-at-most g l) in
-    within-is (linear-operation g l linear-p linear-n linear-q .is (three p n q))
+    within-is (linear-group g l .is (three p n q))
     (within-≤ (form-within (ofGroup g) (s .own) (s .next) (s .before)) (mul-le-mul-right (2 ^ 20) two))

@@ -3,6 +3,7 @@ use mathlib.Core.Path.{_≡_, refl, sym, _∙_}
 use mathlib.Core.List.{List}
 use Prim.Native.Nat.{ℕ, _*_, _<_}
 use native.Mathlib.Omega.{arith}
+use lib.Dec.{T}
 use lib.IntN.{ℤ, pos, _*ℤ_, _-ℤ_}
 use Rattle.integer.specs.Within.{_within_}
 use Rattle.integer.specs.Sum.{sum}
@@ -11,14 +12,13 @@ use Rattle.integer.proofs.Laws.{within-≤, within-is, cancel-times}
 use Rattle.integer.proofs.SumLaws.{sum--, sum-times, sum-within}
 use Rattle.integer.proofs.HalfUnit.{nearest-near}
 use Rattle.setting.specs.declared.Setting.{Setting}
-use Rattle.setting.specs.Values.{endOf, above, below, factor}
-use Rattle.setting.proofs.LimitLaws.{Startable}
+use Rattle.setting.specs.Values.{endOf, above, below, factor, startable}
+use Rattle.setting.proofs.LimitLaws.{startable-is}
 use Rattle.matching.specs.Matching.{Three, sum3}
 use Rattle.matching.specs.Sets.{System, sysA, sysB, sysC, turned, seen, phases, filtered, matchedAt}
-use Rattle.matching.specs.Bank.{NearIdeal, Healthy, InReach, total}
-use Rattle.matching.specs.Sized.{Sampled}
-use Rattle.matching.proofs.Rows.{row}
-use Rattle.matching.proofs.OneEnd.{rest-gone, one-size, one-end}
+use Rattle.matching.specs.Bank.{NearIdeal, Healthy, InReach, total, TotalBound, MatchedBound}
+use Rattle.matching.specs.Sized.{Scaled}
+use Rattle.matching.proofs.OneEnd.{one-size, one-end}
 
 -- what holds of each phase, as the phase sees the three, holds of the three that a system sees
 module _ (R : Three → Three → Type 0) (x w : Three) (h : (l : System) → R (seen l x) (seen l w)) where
@@ -35,40 +35,43 @@ seen-sum w sysB = simp ints (omega arith)
 seen-sum w sysC = simp ints (omega arith)
 
 -- a sum of numbers, each within b of a thousandth of one of which the sum is 0
-sum-close : (f w : ℕ → ℤ) (n b : ℕ) → ((z : ℕ) → z < n → (pos 1000 *ℤ f z -ℤ w z) within (1000 * b)) → sum n w ≡ pos 0 → sum n f within (b * n)
+sum-close : (f w : ℕ → ℤ) (n b : ℕ) → ((z : ℕ) → z < n → (pos 1000 *ℤ f z -ℤ w z) within (1000 * b)) → sum n w ≡ pos 0 →
+    sum n f within (b * n)
 sum-close f w n b h e =
     let eq : sum n (λ z. pos 1000 *ℤ f z -ℤ w z) ≡ pos 1000 *ℤ sum n f =
     sum-- (λ z. pos 1000 *ℤ f z) w n ∙ rw (sum-times (pos 1000) f n, e) (simp ints (omega arith)) in
     cancel-times {k = 1000} (omega arith) (within-≤ (within-is (sym eq) (sum-within (1000 * b) n (λ z. pos 1000 *ℤ f z -ℤ w z) h)) (omega arith))
 
-module _ (v : Setting) (ok : Startable v) (xs : List ℤ) (reach : InReach v xs) where
+module _ (v : Setting) (start : T (startable v)) (xs : List ℤ) (reach : InReach v xs) where
   -- an end in use, as a system sees it
-  pub sampled : (z : ℕ) → z < v .ends → (l : System) → Sampled (factor v z) (endOf v z .group) (seen l (phases xs z))
-  sampled z h l =
+  pub scaled : (z : ℕ) → z < v .ends → (l : System) → Scaled (factor v z) (endOf v z .group) (seen l (phases xs z))
+  scaled z h l =
+      let ok = startable-is start in
       let r = around (λ x w. (x .p) within 32000) (phases xs z) (phases xs z) (reach z h) l in
-      record { factor = ok .factor-within z h; group = ok .limits .group z h; own = r .0; next = r .1; before = r .2 }
+      record { factor = ok .factor-within z h; sampled = record { group = ok .limits .group z h; own = r .0; next = r .1; before = r .2 } }
 
-  pub matched-bound : (z : ℕ) → z < v .ends → (l : System) → matchedAt v xs z l within 761874
-  unfolding matchedAt
-  matched-bound z h l = one-size (sampled z h l) (filtered (endOf v z))
+  end-bound : (bank : Healthy v xs) (z : ℕ) → z < v .ends → (l : System) → (pos 1000 *ℤ matchedAt v xs z l -ℤ seen l (bank .w z) .p) within 13000
+  unfolding matchedAt factor
+  end-bound bank z h l =
+      let e = endOf v z in
+      let f = filtered e in
+      let some : 0 < below v = omega (arith, startable-is start .power .least) in
+      let near = around (λ x u. NearIdeal (e .group) f (above e) (below v) u (bank .common z) (x .p)) (phases xs z) (bank .w z) (bank .near z h) l in
+      one-end (scaled z h l) f (above e) (below v) (seen l (bank .w z)) (bank .common z) some
+      (nearest-near (pos (65536 * above e)) (below v) some)
+      (seen-sum (bank .w z) l ⇒ bank .over-limbs z h ⇒ simp ints (omega arith))
+      (λ t. bank .unfiltered z h t ⇒ simp ints (omega arith))
+      (near .0)
+      (near .1)
+      (near .2)
 
-  module _ (bank : Healthy v xs) where
-    end-bound : (z : ℕ) → z < v .ends → (l : System) → (pos 1000 *ℤ matchedAt v xs z l -ℤ seen l (bank .w z) .p) within 13000
-    unfolding matchedAt factor
-    end-bound z h l =
-        let e = endOf v z in
-        let f = filtered e in
-        let some : 0 < below v = omega (arith, ok .power .least) in
-        let w = seen l (bank .w z) in
-        let near = around (λ x u. NearIdeal (e .group) f (above e) (below v) u (bank .common z) (x .p)) (phases xs z) (bank .w z) (bank .near z h) l in
-        one-end (sampled z h l) f (above e) (below v) w (bank .common z) some
-        (nearest-near (pos (65536 * above e)) (below v) some)
-        (rest-gone (row (e .group) f (ok .limits .group z h)) w (seen-sum (bank .w z) l ⇒ bank .over-limbs z h ⇒ simp ints (omega arith)))
-        (λ t. bank .unfiltered z h t ⇒ simp ints (omega arith))
-        (near .0)
-        (near .1)
-        (near .2)
+pub total-bound : TotalBound
+unfolding TotalBound total
+total-bound v start xs reach bank l =
+    within-≤
+    (sum-close (λ z. matchedAt v xs z l) (λ z. seen l (bank .w z) .p) (v .ends) 13 (λ z h. end-bound v start xs reach bank z h l) (bank .over-ends l))
+    (omega arith)
 
-    pub total-bound : (l : System) → total v xs l within (13 * v .ends)
-    unfolding total
-    total-bound l = sum-close (λ z. matchedAt v xs z l) (λ z. seen l (bank .w z) .p) (v .ends) 13 (λ z h. end-bound z h l) (bank .over-ends l)
+pub matched-bound : MatchedBound
+unfolding MatchedBound matchedAt
+matched-bound v start xs reach z h l = within-≤ (one-size (scaled v start xs reach z h l) (filtered (endOf v z))) (omega arith)

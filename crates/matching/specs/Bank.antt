@@ -16,14 +16,14 @@ use Rattle.matching.specs.Sets.{System, seen, phases, filtered, matchedA
 -- The ideal line currents at an end of group g, times k: T(12 − g) of w (T(0) for g = 0), 1351/2340 times at odd groups. A phase sees the
 -- limbs as its system does. They are the same with the filter on and off.
 unfoldable pub ideal : (isEven filter : Bool) → ℕ → Three → Quotient
-ideal true f g w = record { top = operation ((12 - g) % 12) (w .p) (w .n) (w .q); over = 1 }
-ideal false f g w = record { top = pos 1351 *ℤ operation ((12 - g) % 12) (w .p) (w .n) (w .q); over = 2340 }
+ideal true f g w = record { top = operation ((12 - g) % 12) (w .p) (w .n) (w .q); under = 1 }
+ideal false f g w = record { top = pos 1351 *ℤ operation ((12 - g) % 12) (w .p) (w .n) (w .q); under = 2340 }
 
 -- The sample x lies within 1/2 of its ideal, which is ideal(w)/k + c thousandths of a unit, where k = N/B.
 abbrev pub NearIdeal : (g : ℕ) (filter : Bool) (N B : ℕ) (w : Three) (c x : ℤ) → Type 0
 NearIdeal g f N B w c x =
     let i = ideal (even g) f g w in
-    Near x (pos B *ℤ i .top +ℤ pos (i .over * N) *ℤ c) (1000 * (i .over * N))
+    Near x (pos B *ℤ i .top +ℤ pos (i .under * N) *ℤ c) (1000 * (i .under * N))
 
 -- The set xs holds, within half a unit per sample, the currents of a healthy bank of the setting v.
 pub record Healthy (v : Setting) (xs : List ℤ) : Type 0 where
@@ -56,4 +56,5 @@ TotalBound = (v : Setting) → T (startable v) → (xs : List ℤ) → InReach v
 
 -- For any accepted samples of such a setting, each matched number is within 761,874.
 unfoldable pub MatchedBound : Type 0
-MatchedBound = (v : Setting) → T (startable v) → (xs : List ℤ) → InReach v xs → (z : ℕ) → z < v .ends → (l : System) → matchedAt v xs z l within 761874
+MatchedBound =
+    (v : Setting) → T (startable v) → (xs : List ℤ) → InReach v xs → (z : ℕ) → z < v .ends → (l : System) → matchedAt v xs z l within 761874

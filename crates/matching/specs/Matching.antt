@@ -36,18 +36,18 @@ sum3 x = x .p +ℤ x .n +ℤ x .q
 abbrev pub lessZero : Three → ℤ → ℤ
 lessZero x y = pos 3 *ℤ y -ℤ sum3 x
 
--- An exact quotient: top / over.
+-- An exact quotient: top / under.
 pub record Quotient : Type 0 where
   pub top : ℤ
-  pub over : ℕ
+  pub under : ℕ
 
 -- What K/65,536 multiplies. Filter on: even groups use p − z0, n − z0, q − z0 for p, n, q; odd groups stay. Filter off: odd groups add z0.
 unfoldable pub operated : (isEven filter : Bool) → ℕ → Three → Quotient
-operated true false g x = record { top = operation g (x .p) (x .n) (x .q); over = 1 }
-operated true true g x = record { top = operation g (lessZero x (x .p)) (lessZero x (x .n)) (lessZero x (x .q)); over = 3 }
-operated false true g x = record { top = pos 780 *ℤ operation g (x .p) (x .n) (x .q); over = 1351 }
-operated false false g x = record { top = pos 3 *ℤ (pos 780 *ℤ operation g (x .p) (x .n) (x .q)) +ℤ pos 1351 *ℤ sum3 x; over = 3 * 1351 }
+operated true false g x = record { top = operation g (x .p) (x .n) (x .q); under = 1 }
+operated true true g x = record { top = operation g (lessZero x (x .p)) (lessZero x (x .n)) (lessZero x (x .q)); under = 3 }
+operated false true g x = record { top = pos 780 *ℤ operation g (x .p) (x .n) (x .q); under = 1351 }
+operated false false g x = record { top = pos 3 *ℤ (pos 780 *ℤ operation g (x .p) (x .n) (x .q)) +ℤ pos 1351 *ℤ sum3 x; under = 3 * 1351 }
 
 -- The matched number v: K/65,536 times that, to the nearest, rounded once.
 unfoldable pub matched : (K : ℤ) (g : ℕ) (filter : Bool) → Three → ℤ
-matched K g filter x = nearest (K *ℤ operated (even g) filter g x .top) (65536 * operated (even g) filter g x .over)
+matched K g filter x = nearest (K *ℤ operated (even g) filter g x .top) (65536 * operated (even g) filter g x .under)

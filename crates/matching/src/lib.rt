@@ -2,9 +2,9 @@
 
 ghost use mathlib.Core.Path.{_≡_};
 ghost use Prim.Native.Nat.{_<_};
-ghost use Rattle.matching.specs.Matching.{three, operation as operationOf, matched as matchedOf};
+ghost use Rattle.matching.specs.Matching.{three, even, operation as operationOf, operated as operatedOf, matched as matchedOf};
 ghost use Rattle.matching.specs.Sets.{trioOf, trioAt, numbers as numbersOf};
-ghost use Rattle.matching.specs.Sized.{Small, Sampled, Accepted};
+ghost use Rattle.matching.specs.Sized.{Small, Sampled, Scaled, Accepted, parts};
 ghost use Rattle.matching.specs.Bank.{TotalBound, MatchedBound};
 use setting::End;
 use setting::Setting;
@@ -38,30 +38,39 @@ fn operation(g: u8, p: i64, n: i64, q: i64) -> i64
     }
 }
 
-// The matched number of a system: K/65,536 times the operated currents, to the nearest, rounded once.
-fn matched(k: i64, g: u8, filter: bool, p: i64, n: i64, q: i64) -> i64
-    requires { ⌜ Sampled k g (three p n q) ⌝ }
-    ensures { λ r. ⌜ r ≡ matchedOf k g filter (three p n q) ⌝ }
+// What K/65,536 multiplies, in parts of 4053 = 3·1351, so that every case has the same divisor. s is
+// 3·z0. T(g) of p − z0, n − z0, q − z0 is T(g) of p, n, q less T(g) of z0, z0, z0.
+fn operated(g: u8, filter: bool, p: i64, n: i64, q: i64) -> i64
+    requires { ⌜ Sampled g (three p n q) ⌝ }
+    ensures { λ r. ⌜ r ≡ parts (operatedOf (even g) filter g (three p n q)) ⌝ }
 {
     let s = p + n + q;
+    let t = operation(g, p, n, q);
     if g % 2 == 0 {
+        let u = 4053 * t;
         if filter {
-            let t = operation(g, 3 * p - s, 3 * n - s, 3 * q - s);
-            return integer::nearest(k * t, 65536 * 3);
+            return u - 1351 * operation(g, s, s, s);
         }
-        let t = operation(g, p, n, q);
-        return integer::nearest(k * t, 65536);
+        return u;
     }
-    let t = 780 * operation(g, p, n, q);
+    let u = 2340 * t;
     if filter {
-        return integer::nearest(k * t, 65536 * 1351);
+        return u;
     }
-    integer::nearest(k * (3 * t + 1351 * s), 65536 * 4053)
+    u + 1351 * s
+}
+
+// The matched number of a system: K/65,536 times that, to the nearest, rounded once.
+fn matched(k: i64, g: u8, filter: bool, p: i64, n: i64, q: i64) -> i32
+    requires { ⌜ Scaled k g (three p n q) ⌝ }
+    ensures { λ r. ⌜ r ≡ matchedOf k g filter (three p n q) ⌝ }
+{
+    integer::nearest(k * operated(g, filter, p, n, q), 65536 * 4053) as i32
 }
 
 // The three matched numbers of an end.
 fn matched_end(k: i64, e: End, a: i16, b: i16, c: i16) -> Trio
-    requires { ⌜ Sampled k (e .group) (three a b c) ⌝ }
+    requires { ⌜ Scaled k (e .group) (three a b c) ⌝ }
     ensures { λ r. ⌜ r ≡ trioOf k e (three a b c) ⌝ }
 {
     let g = e.group;
@@ -70,9 +79,9 @@ fn matched_end(k: i64, e: End, a: i16, b: i16, c: i16) -> Trio
     let y = b as i64;
     let z = c as i64;
     Trio {
-        a: matched(k, g, filter, x, y, z) as i32,
-        b: matched(k, g, filter, y, z, x) as i32,
-        c: matched(k, g, filter, z, x, y) as i32,
+        a: matched(k, g, filter, x, y, z),
+        b: matched(k, g, filter, y, z, x),
+        c: matched(k, g, filter, z, x, y),
     }
 }
 

@@ -2,7 +2,7 @@
 -- another the numbers are zero.
 use borrow.Author.Needs.{needs}
 use borrow.Author.Tests.{lt-ltb, le-ltb}
-use mathlib.Core.Path.{_≡_, refl, _∙_}
+use mathlib.Core.Path.{_≡_, refl}
 use mathlib.Core.Bool.{cond}
 use mathlib.Core.List.{List}
 use Prim.Native.Nat.{ℕ, _<_}
@@ -11,41 +11,34 @@ use lib.IntN.{ℤ, pos}
 use lib.ListN.{getD}
 use mir.Syntax.{w16, w64}
 use mir.Val.{toZ, ofZ}
+use Rattle.integer.specs.Within.{_within_}
 use Rattle.integer.proofs.Machine.{back-within}
 use Rattle.integer.proofs.Fill.{place}
 use Rattle.setting.specs.declared.Setting.{Setting}
 use Rattle.setting.specs.Values.{endOf, factor}
 use Rattle.setting.specs.Limits.{fourFactors}
-use Rattle.setting.proofs.LimitLaws.{startable-is}
 use Rattle.matching.specs.Sets.{sysA, seen, phases, trioOf, matchedAt, trioAt}
-use Rattle.matching.specs.Sized.{Sampled, Accepted}
-use Rattle.matching.proofs.Total.{sampled}
+use Rattle.matching.specs.Sized.{Scaled, Accepted}
+use Rattle.matching.proofs.Total.{scaled}
 use Rattle.matching.proofs.matched_at.Statement.{statement}
 use Rattle.matching.proofs.matched_at.Tie as tie
 
--- K of an end in use, among the four
-factor-at : (v : Setting) (z : ℕ) → z < 4 → z < v .ends → getD (fourFactors v) z (pos 0) ≡ factor v z
-unfolding fourFactors
-factor-at v z l h = place (pos 0) (λ k. cond (ltb k (v .ends)) (factor v k) (pos 0)) refl z l ∙ rw (lt-ltb z (v .ends) h)
-
 -- ---- an end in use
 
-module _ {v : Setting} {ks xs : List ℤ} (a : Accepted v ks xs) {z : ℕ} (h : z < v .ends) where
-  end-sampled : Sampled (factor v z) (endOf v z .group) (phases xs z)
+module _ {v : Setting} {ks xs : List ℤ} (a : Accepted v ks xs) {z : ℕ} (h : z < v .ends) (l : z < 4) where
+  end-scaled : Scaled (factor v z) (endOf v z .group) (phases xs z)
   unfolding seen
-  end-sampled = sampled v (startable-is (a .sound)) xs (a .reach) z h sysA
+  end-scaled = scaled v (a .sound) xs (a .reach) z h sysA
 
-  read-factor : z < 4 → toZ w64 (ofZ w64 (getD ks z (pos 0))) ≡ factor v z
-  read-factor l = rw (a .factors, factor-at v z l h) (back-within (end-sampled .factor) w64 refl)
+  -- K among the four, as it is read
+  read-factor : toZ w64 (ofZ w64 (getD ks z (pos 0))) ≡ factor v z
+  unfolding fourFactors
+  read-factor =
+      rw (a .factors, place (pos 0) (λ k. cond (ltb k (v .ends)) (factor v k) (pos 0)) refl z l, lt-ltb z (v .ends) h)
+      (back-within (end-scaled .factor) w64 refl)
 
-  read-own : toZ w16 (ofZ w16 (phases xs z .p)) ≡ phases xs z .p
-  read-own = back-within (end-sampled .own) w16 refl
-
-  read-next : toZ w16 (ofZ w16 (phases xs z .n)) ≡ phases xs z .n
-  read-next = back-within (end-sampled .next) w16 refl
-
-  read-before : toZ w16 (ofZ w16 (phases xs z .q)) ≡ phases xs z .q
-  read-before = back-within (end-sampled .before) w16 refl
+read-sample : {x : ℤ} → x within 32000 → toZ w16 (ofZ w16 x) ≡ x
+read-sample h = back-within h w16 refl
 
 -- ---- the needs
 
@@ -89,20 +82,21 @@ matched-end-requires : tie.Need-matched-end-requires
 matched-end-requires c κs =
     let e = c .before .before .before in
     let d = e .before .before in
-    let a = d .before .before .pre .0 in
-    let l = d .before .before .pre .1 in
-    let h = d .if1 .taken in
-    rw (read-factor a h l, e .end-of .ensures, read-own a h, read-next a h, read-before a h) (end-sampled a h)
+    let a = d .before .before .pre in
+    let s = end-scaled (a .0) (d .if1 .taken) (a .1) in
+    let x = s .sampled in
+    rw (read-factor (a .0) (d .if1 .taken) (a .1), e .end-of .ensures, read-sample (x .own), read-sample (x .next), read-sample (x .before)) s
 
 returns : tie.Need-returns
 unfolding trioOf trioAt matchedAt
 returns c =
     let e = c .before .before .before .before in
     let d = e .before .before in
-    let a = d .before .before .pre .0 in
-    let l = d .before .before .pre .1 in
+    let a = d .before .before .pre in
     let h = d .if1 .taken in
-    rw (c .matched-end .ensures, read-factor a h l, e .end-of .ensures, read-own a h, read-next a h, read-before a h, lt-ltb _ _ h)
+    let x = end-scaled (a .0) h (a .1) .sampled in
+    rw (c .matched-end .ensures, read-factor (a .0) h (a .1), e .end-of .ensures)
+    (rw (read-sample (x .own), read-sample (x .next), read-sample (x .before), lt-ltb _ _ h))
 
 returns-2 : tie.Need-returns-2
 unfolding trioAt
@@ -111,19 +105,6 @@ returns-2 c = rw (le-ltb _ _ (c .if1 .left))
 pub matched-at-spec : {M : Type 1} → statement M
 matched-at-spec =
     tie.close
-    (tie.spec
-    mul-first
-    mul-matched-end
-    array-copy-out-matched-end
-    end-of-requires
-    mul-matched-end-2
-    shared-slice-copy-out-matched-end
-    add-matched-end
-    mul-matched-end-3
-    shared-slice-copy-out-matched-end-2
-    add-matched-end-2
-    mul-matched-end-4
-    shared-slice-copy-out-matched-end-3
-    matched-end-requires
-    returns
-    returns-2)
+    (tie.spec mul-first mul-matched-end array-copy-out-matched-end end-of-requires mul-matched-end-2 shared-slice-copy-out-matched-end
+    add-matched-end mul-matched-end-3 shared-slice-copy-out-matched-end-2 add-matched-end-2 mul-matched-end-4
+    shared-slice-copy-out-matched-end-3 matched-end-requires returns returns-2)
