@@ -7,17 +7,20 @@ use native.Mathlib.Omega.{arith}
 use lib.Dec.{T, ltb, leb→le, le→leb}
 use borrow.Author.Tests.{ltb-true}
 use lib.IntN.{ℤ, pos, natAbs}
-use lib.ListN.{getD, take}
+use lib.ListN.{take}
 use Rattle.integer.specs.Within.{_within_}
 use Rattle.integer.specs.Tests.{each, Each, none, _&_}
 use Rattle.integer.proofs.Reading.{ints}
-use Rattle.integer.proofs.TestLaws.{test-each, each-test, each-append, each-drop, each-get}
+use Rattle.integer.proofs.TestLaws.{test-each, each-test, each-append, each-drop}
 use Rattle.record.specs.declared.Window.{Window}
 use Rattle.record.specs.Record.{numberWithin, afterHeld, atEnd, placed}
 
 -- a matched number that a record may hold
 abbrev pub Sized : ℤ → Type 0
 Sized x = x within 800000
+
+pub zero-sized : Sized (pos 0)
+zero-sized = simp ints (omega arith)
 
 each-take : {P : ℤ → Type 0} {l : List ℤ} → Each P l → (n : ℕ) → Each P (take n l)
 each-take h zero = none
@@ -32,17 +35,13 @@ pub sized-test : {l : List ℤ} → Each Sized l → T (each numberWithin l)
 sized-test = each-test numberWithin (λ x h. le→leb (natAbs x) 800000 (h .size))
 
 -- each number of the window after a set
-module _ (w : Window) (ns : List ℤ) (old : Each Sized (w .values)) (new : Each Sized ns) where
-  pub placed-sized : Each Sized (placed w ns .values)
-  unfolding placed
-  placed-sized = by (ltb (w .fill) 12)
-    where
-      by : (b : Bool) → Each Sized (cond b (afterHeld w ns) (atEnd w ns) .values)
-      by true = each-append (each-take old (12 * w .fill)) (each-append new (each-drop old (12 * w .fill + 12)))
-      by false = each-append (each-drop old 12) new
-
-  pub placed-each : (k : ℕ) → Sized (getD (placed w ns .values) k (pos 0))
-  placed-each = each-get placed-sized (simp ints (omega arith))
+pub placed-sized : (w : Window) (ns : List ℤ) → Each Sized (w .values) → Each Sized ns → Each Sized (placed w ns .values)
+unfolding placed
+placed-sized w ns old new = by (ltb (w .fill) 12)
+  where
+    by : (b : Bool) → Each Sized (cond b (afterHeld w ns) (atEnd w ns) .values)
+    by true = each-append (each-take old (12 * w .fill)) (each-append new (each-drop old (12 * w .fill + 12)))
+    by false = each-append (each-drop old 12) new
 
 -- at most twelve are held
 pub placed-fill : (w : Window) (ns : List ℤ) → placed w ns .fill ≤ 12

@@ -13,7 +13,7 @@ use Rattle.setting.specs.declared.Setting.{Setting}
 use Rattle.setting.specs.Values.{startable}
 use Rattle.matching.specs.Sets.{numbers}
 use Rattle.record.specs.Record.{elementOf, perSystem, clear, countersWithin}
-use Rattle.record.proofs.Placed.{numbers-sized, sized-test, placed-sized, placed-fill}
+use Rattle.record.proofs.Placed.{sized-test, placed-fill}
 use Rattle.record.proofs.Elements.{counters-test, element-≤}
 use Rattle.relay.specs.declared.Relay.{Relay}
 use Rattle.relay.specs.Record.{fresh, admissible}
@@ -21,7 +21,7 @@ use Rattle.relay.specs.Calls.{accepted, windowAfter, elementNow, replyNo
 use Rattle.relay.specs.Lists.{Call, sample, reset, after}
 use Rattle.relay.proofs.Admission.{is-T, admitted, admissible-of}
 use Rattle.relay.proofs.Cases.{Other, sample-gives, sample-declines, reset-leaves, reset-gives}
-use Rattle.relay.proofs.Taken.{reach, sized-of}
+use Rattle.relay.proofs.Ready.{reach, window-sized}
 
 -- ---- records that are admissible
 
@@ -41,13 +41,12 @@ module _ (r : Relay) (a : admissible r ≡ true) where
   now-admissible : (xs : List ℤ) → T (accepted (r .setting) xs) → admissible (relayNow r (windowAfter r xs)) ≡ true
   unfolding relayNow
   now-admissible xs t =
-      let v = r .setting in
-      let ns = numbers v xs in
+      let M = r .setting .confirm in
       admissible-of _
       (admitted r a 0
-      & le→leb _ _ (placed-fill (r .window) ns)
-      & sized-test (placed-sized (r .window) ns (numbers-sized (admitted r a 2)) (sized-of v (admitted r a 0) xs (reach v xs t)))
-      & counters-test (v .confirm) (elementNow r (windowAfter r xs)) (λ l. element-≤ (v .confirm) _ (elementOf (r .trip) l))
+      & le→leb _ _ (placed-fill (r .window) (numbers (r .setting) xs))
+      & sized-test (window-sized r xs a (reach (r .setting) xs t))
+      & counters-test M (elementNow r (windowAfter r xs)) (λ l. element-≤ M _ (elementOf (r .trip) l))
       & none)
 
 -- ---- one call

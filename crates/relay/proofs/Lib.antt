@@ -1,8 +1,6 @@
 -- Laws of the calls: their cases, what an accepted set is ready for, that a record stays admissible, and the induction over lists of calls.
 pub mod Cases
-pub mod Taken
 pub mod Admission
-pub mod Below
 pub mod Settled
 pub mod Ready
 pub mod Kept

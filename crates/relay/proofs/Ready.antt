@@ -1,55 +1,82 @@
--- What an accepted set of an admissible record is ready for: matching, filing and measuring.
-use mathlib.Core.Path.{_≡_}
-use mathlib.Core.Bool.{true}
+-- An accepted set of an admissible record: its samples are in reach, and its matched numbers are as large as a record may hold. So it is ready for
+-- matching, filing and measuring.
+use mathlib.Core.Path.{_≡_, refl}
+use mathlib.Core.Bool.{Bool, true, false, cond}
 use mathlib.Core.List.{List}
-use Prim.Native.Nat.{_≤_}
+use Prim.Native.Nat.{ℕ, _+_, _*_, _/_, _%_, _≤_}
 use native.Mathlib.Omega.{arith}
-use lib.Dec.{T, leb→le}
-use lib.IntN.{ℤ}
+use lib.Dec.{T, leb, ltb, leb→le}
+use borrow.Author.Tests.{ltb-true}
+use lib.IntN.{ℤ, pos, natAbs}
 use lib.ListN.{length}
+use Rattle.integer.specs.Within.{_within_}
+use Rattle.integer.specs.Tests.{Each}
+use Rattle.integer.proofs.Reading.{ints}
+use Rattle.integer.proofs.Laws.{within-≤}
+use Rattle.integer.proofs.Places.{upTo-each}
+use Rattle.integer.proofs.TestLaws.{not-not, each-get, test-each}
+use Rattle.refusal.proofs.Stops.{none-of}
+use Rattle.setting.specs.declared.Setting.{Setting}
 use Rattle.setting.specs.Values.{startable}
 use Rattle.setting.specs.Limits.{Limits, fourFactors}
-use Rattle.setting.proofs.LimitLaws.{Startable, startable-is}
-use Rattle.matching.specs.Sets.{numbers}
+use Rattle.setting.proofs.LimitLaws.{startable-is}
+use Rattle.matching.specs.Sets.{System, sysA, sysB, sysC, seen, phases, matchedAt, numbers, system}
+use Rattle.matching.specs.Bank.{InReach, MatchedBound}
 use Rattle.matching.specs.Sized.{Accepted}
 use Rattle.measuring.specs.Sized.{Measurable}
 use Rattle.record.specs.declared.Window.{Window}
+use Rattle.record.proofs.Placed.{Sized, zero-sized, numbers-sized, placed-sized}
 use Rattle.relay.specs.declared.Relay.{Relay}
 use Rattle.relay.specs.Record.{admissible}
-use Rattle.relay.specs.Calls.{inReach, windowAfter}
+use Rattle.relay.specs.Calls.{inReach, setRows, accepted, windowAfter}
 use Rattle.relay.proofs.Admission.{is-T, admitted}
-use Rattle.relay.proofs.Taken.{reach-of, sized-of}
-use Rattle.record.proofs.Placed.{numbers-sized, placed-each}
+use Rattle.matching.proofs.Total.{matched-bound}
+
+module _ (v : Setting) (xs : List ℤ) where
+  reach-of : T (inReach xs) → InReach v xs
+  unfolding seen
+  reach-of t z h = by (test-each (λ x. leb (natAbs x) 32000) (λ x s. record { size = leb→le (natAbs x) 32000 s }) xs t)
+    where
+      zero-within : pos 0 within 32000
+      zero-within = simp ints (omega arith)
+
+      by : Each (λ x. x within 32000) xs → (l : System) → (seen l (phases xs z) .p) within 32000
+      by e sysA = each-get e zero-within (3 * z)
+      by e sysB = each-get e zero-within (3 * z + 1)
+      by e sysC = each-get e zero-within (3 * z + 2)
+
+  pub reach : T (accepted v xs) → InReach v xs
+  unfolding setRows
+  reach t = reach-of (not-not (inReach xs) (none-of (setRows v xs) t 10))
+
+  sized-of : T (startable v) → InReach v xs → Each Sized (numbers v xs)
+  unfolding numbers MatchedBound
+  sized-of s r = upTo-each 12 _ (λ j l. by (j / 3) (system (j % 3)) (ltb (j / 3) (v .ends)) refl)
+    where
+      by : (z : ℕ) (l : System) (b : Bool) → ltb z (v .ends) ≡ b → Sized (cond b (matchedAt v xs z l) (pos 0))
+      by z l true e = within-≤ (matched-bound v s xs r z (ltb-true z (v .ends) e) l) (omega arith)
+      by z l false e = zero-sized
 
 module _ (r : Relay) (xs : List ℤ) (a : admissible r ≡ true) where
-  pub startable-now : T (startable (r .setting))
-  startable-now = admitted r a 0
-
-  limits-now : Startable (r .setting)
-  limits-now = startable-is startable-now
-
   pub factors-ready : Limits (r .setting)
-  factors-ready = limits-now .limits
+  factors-ready = startable-is (admitted r a 0) .limits
 
   pub few-held : r .window .fill ≤ 12
   few-held = leb→le _ _ (admitted r a 1)
 
+  -- the numbers of the window with the set filed
+  pub window-sized : InReach (r .setting) xs → Each Sized (windowAfter r xs .values)
+  window-sized h = placed-sized (r .window) (numbers (r .setting) xs) (numbers-sized (admitted r a 2)) (sized-of (r .setting) xs (admitted r a 0) h)
+
   module _ (l : length xs ≡ 12) (i : inReach xs ≡ true) where
     pub numbers-ready : (ks : List ℤ) → ks ≡ fourFactors (r .setting) → Accepted (r .setting) ks xs
-    numbers-ready ks e = record { sound = startable-now; factors = e; twelve = l; reach = reach-of (r .setting) xs (is-T i) }
+    numbers-ready ks e = record { sound = admitted r a 0; factors = e; twelve = l; reach = reach-of (r .setting) xs (is-T i) }
 
     pub measure-ready : (w : Window) → w ≡ windowAfter r xs → length (w .values) ≡ 144 → Measurable (r .setting) (w .values)
     measure-ready w e long =
-        let s = limits-now in
+        let s = startable-is (admitted r a 0) in
         record {
           ends = record { two = s .limits .two; four = s .limits .four };
           sections = omega (arith, s .basic .most, s .third .least);
-          sized =
-              record {
-                long = long;
-                small =
-                    rw e
-                    (placed-each (r .window) (numbers (r .setting) xs) (numbers-sized (admitted r a 2))
-                    (sized-of (r .setting) startable-now xs (reach-of (r .setting) xs (is-T i))));
-              };
+          sized = record { long = long; small = rw e (each-get (window-sized (reach-of (r .setting) xs (is-T i))) zero-sized) };
         }

@@ -5,6 +5,7 @@ use lib.Dec.{T}
 use lib.IntN.{ℤ}
 use Rattle.integer.specs.Tests.{Each, none, _&_}
 use Rattle.integer.proofs.TestLaws.{is-true, each-append}
+use Rattle.integer.proofs.Places.{length-upTo}
 use Rattle.refusal.specs.Refusals.{gives}
 use Rattle.setting.specs.declared.Setting.{Setting}
 use Rattle.setting.specs.Values.{startable}
@@ -15,7 +16,6 @@ use Rattle.relay.specs.Record.{fresh}
 use Rattle.relay.specs.Calls.{windowAfter, replyNow, relayNow, cleared}
 use Rattle.relay.specs.Lists.{Call, run}
 use Rattle.relay.proofs.Cases.{sample-gives}
-use Rattle.relay.proofs.Taken.{numbers-twelve}
 use Rattle.relay.proofs.Kept.{Valid, Step, files, declines, clears}
 use Rattle.relay.proofs.Induction.{Invariant, along, last, any-call}
 use Rattle.stability.specs.Lists.{filing, filed, last12, windowOf, WindowFiled, Answered}
@@ -35,8 +35,8 @@ module _ {v : Setting} {ws : List (List ℤ)} {r : Relay} (h : Valid v r) (f : F
   window-now xs = rw (h .same, f .window) (filed-window (f .twelves) (numbers v xs))
 
   pub filed-keeps : {s : Relay} {c : Call} → Step v r c s → Filed (filing v ws c) s
-  unfolding relayNow cleared
-  filed-keeps (files {xs = xs} e o) = rw e (record { window = window-now xs; twelves = each-append (f .twelves) (numbers-twelve v xs & none) })
+  unfolding relayNow cleared numbers
+  filed-keeps (files {xs = xs} e o) = rw e (record { window = window-now xs; twelves = each-append (f .twelves) (length-upTo 12 _ & none) })
   filed-keeps (declines e o) = rw e f
   filed-keeps (clears o) = record { window = f .window; twelves = f .twelves }
 

@@ -1,98 +1,164 @@
--- Demand 3. The invariant: the window is that of the last twelve sets filed (Demand2.antt), each set filed is close (Close.antt), and no latch is set. And
--- from demand 3, that a list of calls which trips is not that of a healthy bank.
-use mathlib.Core.Path.{_≡_, refl, sym, _∙_}
-use mathlib.Core.Bool.{Bool, true, false, cond, true≢false}
+-- Demand 3. The sets of a healthy bank are filed with sums over the ends within 13·E. From a window of twelve such sets D is at most 45, 69 or 91, so
+-- nothing starts and nothing counts, whatever R, H2, H5 and the blocking are. The invariant: the window is that of the last twelve sets filed
+-- (Demand2.antt), each set filed is close, and no latch is set. And from demand 3, that a list of calls which trips is not that of a healthy bank.
+use mathlib.Core.Path.{_≡_, _∙_, refl, sym}
+use mathlib.Core.Bool.{false, Bool, true, cond, true≢false}
 use mathlib.Core.List.{List, []}
-use lib.Dec.{T, eqb}
-use borrow.Author.Tests.{eqb-true}
-use lib.IntN.{ℤ}
+use Prim.Native.Nat.{ℕ, _+_, _*_, _/_, _%_, _≤_, _<_}
+use native.Mathlib.Omega.{arith}
+use lib.Dec.{T}
+use borrow.Author.Tests.{lt-ltb, eqb-true}
+use lib.IntN.{ℤ, pos}
 use lib.ListN.{length}
+use Rattle.integer.specs.Within.{_within_}
+use Rattle.integer.specs.Sum.{sum}
 use Rattle.integer.specs.Tests.{Each, none, _&_}
-use Rattle.integer.proofs.TestLaws.{each-append}
+use Rattle.integer.proofs.Reading.{ints}
+use Rattle.integer.proofs.Laws.{within-is, within-≤}
+use Rattle.integer.proofs.SumLaws.{sum-same, sum-within}
+use Rattle.integer.proofs.TestLaws.{each-get, each-append}
+use Rattle.integer.proofs.Places.{getD-upTo}
 use Rattle.setting.specs.declared.Setting.{Setting}
 use Rattle.setting.specs.Values.{startable}
-use Rattle.matching.specs.Sets.{System, sysA, sysB, sysC}
-use Rattle.measuring.specs.Measuring.{readingOf}
+use Rattle.setting.proofs.LimitLaws.{startable-is}
+use Rattle.matching.specs.Sets.{System, sysA, sysB, sysC, index, system, matchedAt, numbers, numberAt}
+use Rattle.matching.specs.Bank.{Healthy, total, TotalBound}
+use Rattle.amplitude.specs.Peak.{peak, PeakBound}
+use Rattle.amplitude.proofs.PeakLaws.{peak-small, peak-bound}
+use Rattle.characteristic.specs.Characteristic.{counts}
+use Rattle.characteristic.specs.Bound.{QuietBound}
+use Rattle.characteristic.proofs.Bound.{quiet-bound}
+use Rattle.measuring.specs.Window.{sums}
+use Rattle.measuring.specs.Measuring.{differential, start, blocked, readingOf}
 use Rattle.record.specs.declared.Window.{Window}
 use Rattle.record.specs.Record.{elementOf, perSystem, clear}
 use Rattle.record.proofs.Elements.{per-system, no-latch-after}
+use Rattle.relay.specs.Calls.{accepted, full, counting, elementNow, measureNow, replyNow, relayNow, cleared, filling, measured}
+use Rattle.matching.proofs.Total.{total-bound}
+use Rattle.relay.proofs.Ready.{reach}
 use Rattle.relay.specs.declared.Measure.{Measure}
 use Rattle.relay.specs.declared.Relay.{Relay}
 use Rattle.relay.specs.Record.{fresh}
-use Rattle.relay.specs.Calls.{counting, elementNow, measureNow, replyNow, relayNow, cleared, filling, measured}
 use Rattle.relay.specs.Lists.{Call}
 use Rattle.relay.proofs.Admission.{is-T}
 use Rattle.relay.proofs.Kept.{Valid, Step, files, declines, clears}
 use Rattle.relay.proofs.Induction.{Invariant, along, last, every}
-use Rattle.stability.specs.Lists.{filing, last12, windowOf}
+use Rattle.stability.specs.Lists.{last12, windowOf, filing}
+use Rattle.stability.proofs.Filing.{Twelve, each-last12, flat-at}
 use Rattle.stability.specs.Stability.{HealthyCall, Calm, CalmReply, CalmCall, NoLatch, Stability}
 use Rattle.stability.specs.Example.{plain, latchAfter, fault-trips, FaultUnhealthy}
-use Rattle.stability.proofs.Filing.{Twelve}
 use Rattle.stability.proofs.Demand2.{Filed, filed-fresh, window-now, filed-keeps}
-use Rattle.stability.proofs.Close.{Close, numbers-close, d-small, quiet}
+
+-- the sums over the ends are small
+abbrev Close : Setting → List ℤ → Type 0
+Close v ns = (l : System) → sum (v .ends) (λ z. numberAt ns z l) within (13 * v .ends)
 
 record Quiet (v : Setting) (ws : List (List ℤ)) (r : Relay) : Type 0 where
   filed : Filed ws r
   close : Each (Close v) ws
   no-latch : NoLatch r
 
--- ---- an accepted set, once it is filed among close ones
+-- the window that holds the last twelve
+abbrev held : List (List ℤ) → Window
+held ws = windowOf (last12 ws)
 
-module _ (v : Setting) (s : T (startable v)) {ws : List (List ℤ)} (twelves : Each Twelve ws) (close : Each (Close v) ws) {r : Relay} (h : Valid v r)
-    (no-latch : NoLatch r) where
-  abbrev w : Window
-  w = windowOf (last12 ws)
+close-none : (v : Setting) → Close v []
+close-none v l = within-≤ (sum-within 0 (v .ends) (λ z. pos 0) (λ k h. simp ints (omega arith))) (omega arith)
 
-  -- no system counts, whether or not the window is full
-  counting-no : (l : System) → counting v w l ≡ false
-  unfolding windowOf
-  counting-no l = by (eqb (length (last12 ws)) 12) refl
-    where
-      by : (b : Bool) → eqb (length (last12 ws)) 12 ≡ b → counting v w l ≡ false
-      by false e = rw e
-      by true e = rw (e, quiet v s twelves close (eqb-true (length (last12 ws)) 12 e) l .1)
+index-system : (z : ℕ) (l : System) → system ((3 * z + index l) % 3) ≡ l
+index-system z sysA = let e : (3 * z + 0) % 3 ≡ 0 = omega arith in rw e
+index-system z sysB = let e : (3 * z + 1) % 3 ≡ 1 = omega arith in rw e
+index-system z sysC = let e : (3 * z + 2) % 3 ≡ 2 = omega arith in rw e
 
-  latch-no : (l : System) → elementNow r w l .latch ≡ false
-  latch-no l = rw (h .same) (no-latch-after (v .confirm) (elementOf (r .trip) l) (counting-no l) (no-latch l))
-
-  latches-no : NoLatch (relayNow r w)
-  unfolding relayNow
-  latches-no = per-system (λ e. e .latch ≡ false) (elementNow r w) latch-no
-
-  calm : length (last12 ws) ≡ 12 → (l : System) → Calm v (measureNow r w l)
-  unfolding readingOf
-  calm full l =
-      record {
-        no-start = rw (h .same) (quiet v s twelves close full l .0);
-        no-latch = latch-no l;
-        small-d = rw (h .same) (d-small v s twelves close full l);
-      }
-
-  calm-reply : CalmReply v (replyNow r w)
-  unfolding replyNow windowOf
-  calm-reply = by (eqb (length (last12 ws)) 12) refl
-    where
-      m : System → Measure
-      m = measureNow r w
-
-      by : (b : Bool) → eqb (length (last12 ws)) 12 ≡ b → CalmReply v (cond b (measured (m sysA) (m sysB) (m sysC)) (filling (length (last12 ws))))
-      by false e = tt
-      by true e = let full = eqb-true (length (last12 ws)) 12 e in (calm full sysA, calm full sysB, calm full sysC)
-
--- ---- each call, and the list
+index-small : (l : System) → index l < 3
+index-small sysA = omega arith
+index-small sysB = omega arith
+index-small sysC = omega arith
 
 none-latched : (l : System) → elementOf (perSystem (λ l. clear)) l .latch ≡ false
 none-latched = per-system (λ e. e .latch ≡ false) (λ l. clear) (λ l. refl)
 
 module _ (v : Setting) (s : T (startable v)) where
+  -- ---- the sets filed
+
+  -- what stands in a place
+  number-at : (xs : List ℤ) (z : ℕ) (l : System) → z < v .ends → numberAt (numbers v xs) z l ≡ matchedAt v xs z l
+  unfolding numbers
+  number-at xs z l h =
+      let i = index-small l in
+      let e : (3 * z + index l) / 3 ≡ z = omega arith in
+      getD-upTo 12 _ (3 * z + index l) (pos 0) (omega (arith, startable-is s .limits .four))
+      ∙ rw (e, index-system z l, lt-ltb z (v .ends) h)
+
+  numbers-close : (xs : List ℤ) → T (accepted v xs) → Healthy v xs → Close v (numbers v xs)
+  unfolding total TotalBound
+  numbers-close xs t hy l =
+      within-is (sum-same (λ z. numberAt (numbers v xs) z l) (λ z. matchedAt v xs z l) (v .ends) (λ z h. number-at xs z l h))
+      (total-bound v s xs (reach v xs t) hy l)
+
+  module _ {ws : List (List ℤ)} (twelves : Each Twelve ws) (close : Each (Close v) ws) where
+    -- a full window of close sets
+    module _ (f : full (held ws) ≡ true) (l : System) where
+      sums-close : (k : ℕ) → k < 12 → sums (v .ends) (held ws .values) l k within (13 * v .ends)
+      unfolding windowOf
+      sums-close k h =
+          let four = startable-is s .limits .four in
+          let at : k < length (last12 ws) = omega (arith, eqb-true (length (last12 ws)) 12 f) in
+          within-is (sum-same _ _ (v .ends) (λ z j. flat-at (each-last12 twelves) _ k (3 * z + index l) at (omega (arith, index-small l))))
+          (each-get (each-last12 close) (close-none v) k l)
+
+      d-small : differential v (held ws .values) l ≤ peak (v .ends)
+      unfolding PeakBound
+      d-small = let g = startable-is s .limits in peak-bound (v .ends) (g .two) (g .four) _ sums-close
+
+      quiet-system : let win = held ws .values in (start v win l ≡ false) × (counts v (differential v win l) (start v win l) (blocked v win l) ≡ false)
+      unfolding QuietBound
+      quiet-system =
+          let g = startable-is s in
+          let few : differential v (held ws .values) l ≤ 91 = omega (arith, d-small, peak-small (v .ends) (g .limits .four)) in
+          quiet-bound v (g .basic .least) (g .high .least) _ few _ (blocked v (held ws .values) l)
+
+    -- a set filed among them: no system counts, whether or not the window is full
+    module _ {r : Relay} (h : Valid v r) (no-latch : NoLatch r) where
+      counting-no : (l : System) → counting v (held ws) l ≡ false
+      counting-no l = by (full (held ws)) refl
+        where
+          by : (b : Bool) → full (held ws) ≡ b → counting v (held ws) l ≡ false
+          by false e = rw e
+          by true e = rw (e, quiet-system e l .1)
+
+      latch-no : (l : System) → elementNow r (held ws) l .latch ≡ false
+      latch-no l = rw (h .same) (no-latch-after (v .confirm) (elementOf (r .trip) l) (counting-no l) (no-latch l))
+
+      latches-no : NoLatch (relayNow r (held ws))
+      unfolding relayNow
+      latches-no = per-system (λ e. e .latch ≡ false) (elementNow r (held ws)) latch-no
+
+      calm : full (held ws) ≡ true → (l : System) → Calm v (measureNow r (held ws) l)
+      unfolding readingOf
+      calm f l = record { no-start = rw (h .same) (quiet-system f l .0); no-latch = latch-no l; small-d = rw (h .same) (d-small f l) }
+
+      calm-reply : CalmReply v (replyNow r (held ws))
+      unfolding replyNow
+      calm-reply = by (full (held ws)) refl
+        where
+          m : System → Measure
+          m = measureNow r (held ws)
+
+          by : (b : Bool) → full (held ws) ≡ b → CalmReply v (cond b (measured (m sysA) (m sysB) (m sysC)) (filling (held ws .fill)))
+          by false e = tt
+          by true e = (calm e sysA, calm e sysB, calm e sysC)
+
+  -- ---- each call, and the list
+
   keeps : {ws : List (List ℤ)} {r t : Relay} {c : Call} → Valid v r → Quiet v ws r → HealthyCall v c → Step v r c t → Quiet v (filing v ws c) t × CalmCall v r c
   unfolding cleared
   keeps h q hc (files {xs = xs} e o) =
       let now = window-now h (q .filed) xs in
       let filed = rw e at (filed-keeps h (q .filed) (files e o)) in
-      let close = each-append (q .close) (numbers-close v s xs (is-T e) (hc (is-T e)) & none) in (
-        rw e (record { filed = filed; close = close; no-latch = rw now (latches-no v s (filed .twelves) close h (q .no-latch)) }),
-        rw (o, now) (calm-reply v s (filed .twelves) close h (q .no-latch)),
+      let close = each-append (q .close) (numbers-close xs (is-T e) (hc (is-T e)) & none) in (
+        rw e (record { filed = filed; close = close; no-latch = rw now (latches-no (filed .twelves) close h (q .no-latch)) }),
+        rw (o, now) (calm-reply (filed .twelves) close h (q .no-latch)),
       )
   keeps h q hc (declines e o) = (rw e q, rw (o .is) (o .not-12))
   keeps h q hc (clears o) = (record { filed = filed-keeps h (q .filed) (clears o); close = q .close; no-latch = none-latched }, rw o tt)

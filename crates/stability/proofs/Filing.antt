@@ -13,7 +13,6 @@ use lib.Seq.{take-at, drop-at, drop-append-add, drop-append-le, getD-append-add}
 use Rattle.integer.specs.Tests.{Each, none, _&_}
 use Rattle.integer.proofs.Places.{drop-next}
 use Rattle.integer.proofs.TestLaws.{each-drop}
-use Rattle.record.specs.declared.Window.{Window}
 use Rattle.record.specs.Record.{placed}
 use Rattle.stability.specs.Lists.{last12, windowOf}
 
@@ -55,9 +54,6 @@ flat-at (_&_ {a = w} {l = ws} e hs) rest (suc k) j h l =
 
 -- ---- filing
 
-window-same : {a b : List ℤ} {m n : ℕ} → a ≡ b → m ≡ n → _≡_ {A = Window} (record { values = a; fill = m }) (record { values = b; fill = n })
-window-same p q = λ i. record { values = p i; fill = q i }
-
 module _ {ws : List (List ℤ)} (ns : List ℤ) where
   -- while there is room
   room : Each Twelve ws → length ws < 12 → placed (windowOf ws) ns ≡ windowOf (ws ++ (ns ∷ []))
@@ -72,7 +68,7 @@ module _ {ws : List (List ℤ)} (ns : List ℤ) where
       let front : take (12 * n) (flatten ws ++ zeros) ≡ flatten ws = take-at (flatten ws) zeros (12 * n) (flat-length each) in
       let back : drop (12 * n + 12) (flatten ws ++ zeros) ≡ replicate m (pos 0) =
       rw (at, drop-append-add (flatten ws) zeros 12, left, ← (replicate-append-replicate 12 m (pos 0))) (drop-at (replicate 12 (pos 0)) _ 12 refl) in
-      rw (lt-ltb n 12 h) (window-same (rw (front, back, flat-snoc ws ns, more) (sym (append-assoc (flatten ws) ns _))) (sym more))
+      rw (lt-ltb n 12 h, front, back, flat-snoc ws ns, more, append-assoc (flatten ws) ns (replicate m (pos 0)))
 
   -- once twelve are held
   oldest-gone : {w : List ℤ} → Each Twelve (w ∷ ws) → length ws ≡ 11 → placed (windowOf (w ∷ ws)) ns ≡ windowOf (ws ++ (ns ∷ []))
@@ -80,8 +76,8 @@ module _ {ws : List (List ℤ)} (ns : List ℤ) where
   oldest-gone {w} (one & each) e =
       let full : length (w ∷ ws) ≡ 12 = omega arith in
       let more : length (ws ++ (ns ∷ [])) ≡ 12 = length-append ws (ns ∷ []) ∙ omega arith in
-      rw (le-ltb (length (w ∷ ws)) 12 (omega arith), full, more, flat-snoc ws ns, append-nil (w ++ flatten ws), drop-at w (flatten ws) 12 one)
-      (window-same (sym (append-nil (flatten ws ++ ns))) refl)
+      let old : drop 12 (flatten (w ∷ ws) ++ []) ≡ flatten ws = rw append-nil (drop-at w (flatten ws) 12 one) in
+      rw (le-ltb (length (w ∷ ws)) 12 (omega arith), full, more, flat-snoc ws ns, old, append-nil (flatten ws ++ ns))
 
 pub filed-window : {ws : List (List ℤ)} → Each Twelve ws → (ns : List ℤ) → placed (windowOf (last12 ws)) ns ≡ windowOf (last12 (ws ++ (ns ∷ [])))
 unfolding last12

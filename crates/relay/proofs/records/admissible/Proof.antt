@@ -43,13 +43,4 @@ returns-4 c =
 
 pub admissible-spec : {M : Type 1} → statement M
 admissible-spec =
-    tie.close
-    (tie.spec
-    sound-requires
-    returns
-    returns-2
-    slice-aggregate-numbers-within
-    numbers-within-requires
-    returns-3
-    counters-within-requires
-    returns-4)
+    tie.close (tie.spec sound-requires returns returns-2 slice-aggregate-numbers-within numbers-within-requires returns-3 counters-within-requires returns-4)
