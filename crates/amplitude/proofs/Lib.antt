@@ -1,5 +1,4 @@
 -- Bounds of the sums and of the amplitude, the limits of D, and that the amplitude looks at twelve numbers only.
 mod Bounds
-mod Rows
 pub mod PeakLaws
 pub mod Same

@@ -1,3 +1,3 @@
 pub mod Amplitude
-pub mod Sized
+pub mod CycleInput
 pub mod Peak

@@ -121,8 +121,7 @@ last-two s n l = rw (drop-next s n 0 (omega arith), drop-next s (n + 1) 0 (omega
 pub checked-is : (s : List ℕ) → length s ≡ 512 → T (checked s) → s ≡ sealed (take 510 s)
 checked-is s l h =
     let k = split (eqb (getD s 510 0) (sumsOf (take 510 s) .a)) (eqb (getD s 511 0) (sumsOf (take 510 s) .b)) h in
-    let ends : drop 510 s ≡ sumsOf (take 510 s) .a ∷ sumsOf (take 510 s) .b ∷ [] = last-two s 510 l ∙ rw (eqb→eq (getD s 510 0) _ (k .0), eqb→eq (getD s 511 0) _ (k .1)) in
-    sym (take-append-drop 510 s) ∙ rw ends
+    sym (take-append-drop 510 s) ∙ rw (last-two s 510 l, eqb→eq (getD s 510 0) _ (k .0), eqb→eq (getD s 511 0) _ (k .1))
 
 -- and the check that is put in is right
 pub sealed-checked : (body : List ℕ) → length body ≡ 510 → checked (sealed body) ≡ true

@@ -1,7 +1,8 @@
 -- Little-endian numbers (document 01: multi-byte fields are little-endian; a sample is a signed 16-bit number), and runs of zero bytes.
+use mathlib.Core.Path.{_≡_}
 use mathlib.Core.Bool.{Bool, cond}
 use mathlib.Core.List.{List, [], _∷_}
-use Prim.Native.Nat.{ℕ, _+_, _*_, _-_, _/_, _%_}
+use Prim.Native.Nat.{ℕ, _+_, _*_, _-_, _/_, _%_, _<_}
 use lib.Dec.{ltb, eqb}
 use lib.IntN.{ℤ, pos, negsuc, _-ℤ_}
 use lib.ListN.{getD}
@@ -45,3 +46,8 @@ zeros s = each (λ x. eqb x 0) s
 -- each number of the list is a byte
 abbrev pub areBytes : List ℕ → Bool
 areBytes s = each (λ x. ltb x 256) s
+
+-- a byte in a wider type
+pub record ByteOf (x r : ℕ) : Type 0 where
+  pub is : r ≡ x
+  pub small : r < 256

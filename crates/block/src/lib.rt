@@ -3,7 +3,7 @@
 ghost use mathlib.Core.Path.{_≡_};
 ghost use Prim.Native.Nat.{_+_, _≤_, _<_, _%_};
 ghost use lib.ListN.{length, take};
-ghost use Rattle.block.specs.Bytes.{u16At, u32At, signed as signedOf, i16At, bytes16, bytes32, bits as bitsOf, zeros as zerosOf};
+ghost use Rattle.block.specs.Bytes.{u16At, u32At, signed as signedOf, i16At, bytes16, bytes32, bits as bitsOf, zeros as zerosOf, ByteOf};
 ghost use Rattle.block.specs.Block.{sumsOf, checked as checkedOf, sealed, placed};
 
 // The two sums of the check.
@@ -13,13 +13,13 @@ pub struct Sums {
 }
 
 fn wide(x: u8) -> u16
-    ensures { λ r. ⌜ (r ≡ x) × (r < 256) ⌝ }
+    ensures { λ r. ⌜ ByteOf x r ⌝ }
 {
     x as u16
 }
 
 fn wider(x: u8) -> u32
-    ensures { λ r. ⌜ (r ≡ x) × (r < 256) ⌝ }
+    ensures { λ r. ⌜ ByteOf x r ⌝ }
 {
     x as u32
 }
@@ -71,24 +71,19 @@ pub fn place(buffer: &mut [u8], b: [u8; 512])
     requires { ⌜ 512 ≤ length (now buffer) ⌝ }
     ensures { λ _. ⌜ now (buffer .exit) ≡ placed (now (buffer .entry)) b ⌝ }
 {
-    let mut i: usize = 0;
-    while i < 512 {
-        let x = b[i];
-        buffer[i] = x;
-        i += 1;
-    }
+    bytes::copy(&b[0..512], buffer);
 }
 
-// Whether every byte is zero, looked at from the last to the first.
+// Whether every byte is zero.
 pub fn zeros(s: &[u8]) -> bool
     ensures { λ r. ⌜ r ≡ zerosOf (now (s .entry)) ⌝ }
 {
-    let mut left = s.len();
-    while 0 < left {
-        left -= 1;
-        if s[left] != 0 {
+    let mut at: usize = 0;
+    while at < s.len() {
+        if s[at] != 0 {
             return false;
         }
+        at += 1;
     }
     true
 }
@@ -132,11 +127,7 @@ pub fn i16_at(s: &[u8], at: usize) -> i16
 pub fn bits(x: i16) -> u16
     ensures { λ r. ⌜ r ≡ bitsOf x ⌝ }
 {
-    if x < 0 {
-        65535 - (-1 - x) as u16
-    } else {
-        x as u16
-    }
+    ((((x as i32) + 65536) as u32) % 65536) as u16
 }
 
 // The two bytes of a number.

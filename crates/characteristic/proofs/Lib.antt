@@ -1,3 +1,2 @@
--- The fields of a setting that two proofs cite, and the law of a quiet system.
-mod Fields
+-- The law of a quiet system.
 pub mod Bound

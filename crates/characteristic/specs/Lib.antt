@@ -1,3 +1,3 @@
 pub mod Characteristic
-pub mod Ranged
+pub mod Products
 pub mod Bound

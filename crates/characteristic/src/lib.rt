@@ -1,9 +1,11 @@
 // The characteristic of one system: the three sections, harmonics, and what counts toward a trip.
 
 ghost use mathlib.Core.Path.{_≡_};
-ghost use Prim.Native.Nat.{_*_, _≤_};
+ghost use mathlib.Core.Bool.{_&&_, _||_};
+ghost use Prim.Native.Nat.{_+_, _*_, _≤_};
+ghost use lib.Dec.{ltb};
 ghost use Rattle.characteristic.specs.Characteristic.{starts as startsOf, hasHarmonics, counts as countsOf};
-ghost use Rattle.characteristic.specs.Ranged.{Ranged};
+ghost use Rattle.characteristic.specs.Products.{Wide, Product};
 ghost use Rattle.characteristic.specs.Bound.{QuietBound};
 use setting::Setting;
 
@@ -15,39 +17,66 @@ pub struct Currents {
     pub h5: u32,
 }
 
+fn wide(x: u16) -> u32
+    ensures { λ r. ⌜ Wide x r ⌝ }
+{
+    x as u32
+}
+
+fn product(m: u16, x: u32) -> u64
+    ensures { λ r. ⌜ Product m x r ⌝ }
+{
+    (m as u64) * (x as u64)
+}
+
+// Whether 200·D exceeds 200·P + m·x + n·y.
+fn past(d: u32, p: u32, m: u16, x: u32, n: u16, y: u32) -> bool
+    ensures { λ b. ⌜ b ≡ ltb (200 * p + m * x + n * y) (200 * d) ⌝ }
+{
+    200 * (p as u64) + product(m, x) + product(n, y) < 200 * (d as u64)
+}
+
 // The three sections of the characteristic.
 pub fn starts(v: Setting, c: Currents) -> bool
-    requires { ⌜ (v .basic ≤ 2 * v .third) × Ranged c ⌝ }
+    requires { ⌜ v .basic ≤ 2 * v .third ⌝ }
     ensures { λ b. ⌜ b ≡ startsOf v (c .d) (c .r) ⌝ }
 {
-    let p = v.basic as u64;
-    let q = 2 * (v.third as u64);
-    let r = c.r as u64;
-    let d = c.d as u64;
+    let p = wide(v.basic);
+    let q = 2 * wide(v.third);
+    let r = c.r;
+    let d = c.d;
     if r <= p {
         return p < d;
     }
     if r <= q {
-        return 200 * p + (v.slope1 as u64) * (r - p) < 200 * d;
+        return past(d, p, v.slope1, r - p, 0, 0);
     }
-    200 * p + (v.slope1 as u64) * (q - p) + (v.slope2 as u64) * (r - q) < 200 * d
+    past(d, p, v.slope1, q - p, v.slope2, r - q)
+}
+
+// Whether a harmonic is looked at, and above its percent of D.
+fn harmonic(on: bool, percent: u16, d: u32, h: u32) -> bool
+    ensures { λ b. ⌜ b ≡ (on && ltb (percent * d) (100 * h)) ⌝ }
+{
+    if on {
+        return product(percent, d) < 100 * (h as u64);
+    }
+    false
+}
+
+fn or(a: bool, b: bool) -> bool
+    ensures { λ r. ⌜ r ≡ (a || b) ⌝ }
+{
+    if a { true } else { b }
 }
 
 // Whether a system has harmonics.
 pub fn harmonics(v: Setting, c: Currents) -> bool
-    requires { ⌜ Ranged c ⌝ }
     ensures { λ b. ⌜ b ≡ hasHarmonics v (c .d) (c .h2) (c .h5) ⌝ }
 {
-    let d = c.d as u64;
-    if v.flags % 2 == 1 {
-        if (v.second as u64) * d < 100 * (c.h2 as u64) {
-            return true;
-        }
-    }
-    if v.flags / 2 % 2 == 1 {
-        return (v.fifth as u64) * d < 100 * (c.h5 as u64);
-    }
-    false
+    let second = harmonic(v.flags % 2 == 1, v.second, c.d, c.h2);
+    let fifth = harmonic(v.flags / 2 % 2 == 1, v.fifth, c.d, c.h5);
+    or(second, fifth)
 }
 
 // Whether a system counts: it starts and is not blocked, or D exceeds the high-set.
@@ -55,10 +84,10 @@ pub fn counts(v: Setting, d: u32, start: bool, blocked: bool) -> bool
     ensures { λ r. ⌜ r ≡ countsOf v d start blocked ⌝ }
 {
     let above = (v.high as u32) < d;
-    if blocked {
-        return above;
-    }
     if start {
+        if blocked {
+            return above;
+        }
         return true;
     }
     above

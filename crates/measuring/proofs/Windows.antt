@@ -8,12 +8,12 @@ use Rattle.integer.specs.Within.{_within_}
 use Rattle.integer.specs.Lists.{upTo}
 use Rattle.integer.proofs.Places.{length-upTo}
 use Rattle.amplitude.specs.Amplitude.{amplitude, inOrder}
-use Rattle.amplitude.specs.Sized as A
+use Rattle.amplitude.specs.CycleInput.{CycleInput}
 use Rattle.amplitude.proofs.Same.{amplitude-same}
 use Rattle.integer.proofs.Fill.{place, each-place}
 
 module _ {us : List ℤ} (f : ℕ → ℤ) (e : us ≡ upTo 12 f) where
-  pub sized : ((k : ℕ) → f k within 3200000) → A.Sized us
+  pub sized : ((k : ℕ) → f k within 3200000) → CycleInput us
   sized small =
       rw e
       (record {

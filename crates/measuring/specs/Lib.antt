@@ -1,4 +1,4 @@
 pub mod Window
 pub mod Measuring
-pub mod Sized
+pub mod WindowInput
 pub mod Numbers

@@ -1,19 +1,16 @@
 // Measuring a full window: differential, restraint, harmonics, start and blocking of the three systems.
 
 ghost use mathlib.Core.Path.{_≡_};
-ghost use mathlib.Core.Bool.{_||_};
-ghost use Prim.Native.Nat.{_+_, _*_, _≤_, _<_};
-ghost use lib.ListN.{getD};
+ghost use mathlib.Core.Bool.{_&&_, _||_};
+ghost use Prim.Native.Nat.{_+_, _*_, _≤_};
 ghost use lib.IntN.{pos};
+ghost use lib.ListN.{getD};
 ghost use Rattle.integer.specs.Lists.{upTo};
-ghost use Rattle.integer.specs.Sum.{sum};
-ghost use Rattle.integer.specs.Within.{_within_};
 ghost use Rattle.matching.specs.Sets.{system};
 ghost use Rattle.characteristic.specs.Characteristic.{starts as startsOf};
-ghost use Rattle.characteristic.specs.Ranged.{Ranged};
 ghost use Rattle.measuring.specs.Window.{series as seriesOf, sums as sumsOf, difference as differenceOf};
 ghost use Rattle.measuring.specs.Measuring.{twiceRestraint, currentsOf, readingsOf};
-ghost use Rattle.measuring.specs.Sized.{Sized, Ends, Measurable};
+ghost use Rattle.measuring.specs.WindowInput.{PlaceInput, SumInput, Measurable, SystemInput};
 use amplitude::Harmonic;
 use characteristic::Currents;
 use setting::Setting;
@@ -35,16 +32,23 @@ pub struct Readings {
     pub c: Reading,
 }
 
-// v of end z and system y, over the window.
+// v of set k, end z and system y.
+fn at(win: &[i32], k: usize, z: usize, y: usize) -> i32
+    requires { ⌜ PlaceInput (now win) k z y ⌝ }
+    ensures { λ r. ⌜ r ≡ getD (now (win .entry)) (12 * k + (3 * z + y)) (pos 0) ⌝ }
+{
+    win[12 * k + (3 * z + y)]
+}
+
+// v of an end, over the window.
 fn series(win: &[i32], z: usize, y: usize) -> [i32; 12]
-    requires { ⌜ Sized (now win) × (z < 4) × (y < 3) ⌝ }
+    requires { ⌜ PlaceInput (now win) 0 z y ⌝ }
     ensures { λ r. ⌜ r ≡ upTo 12 (seriesOf (now (win .entry)) z (system y)) ⌝ }
 {
     let mut t = [0i32; 12];
     let mut k: usize = 0;
     while k < 12 {
-        let i = 12 * k + (3 * z + y);
-        let x = win[i];
+        let x = at(win, k, z, y);
         t[k] = x;
         k += 1;
     }
@@ -53,45 +57,42 @@ fn series(win: &[i32], z: usize, y: usize) -> [i32; 12]
 
 // End 0 minus end 1.
 fn difference(win: &[i32], y: usize) -> [i32; 12]
-    requires { ⌜ Sized (now win) × (y < 3) ⌝ }
+    requires { ⌜ PlaceInput (now win) 0 1 y ⌝ }
     ensures { λ r. ⌜ r ≡ upTo 12 (differenceOf (now (win .entry)) (system y)) ⌝ }
 {
-    let a = series(win, 0, y);
-    let b = series(win, 1, y);
     let mut t = [0i32; 12];
     let mut k: usize = 0;
     while k < 12 {
-        let x = a[k] - b[k];
+        let x = at(win, k, 0, y) - at(win, k, 1, y);
         t[k] = x;
         k += 1;
     }
     t
 }
 
-// The sum over the ends in use of the numbers at `first`, three places from one end to the next.
-fn sum_at(win: &[i32], ends: u8, first: usize) -> i32
-    requires { ⌜ Sized (now win) × Ends ends × (first + 9 < 144) ⌝ }
-    ensures { λ r. ⌜ (r ≡ sum ends (λ z. getD (now (win .entry)) (first + 3 * z) (pos 0))) × (r within 3200000) ⌝ }
+// The sum of v over the ends in use, of set k.
+fn sum_at(win: &[i32], ends: u8, k: usize, y: usize) -> i32
+    requires { ⌜ SumInput (now win) ends k y ⌝ }
+    ensures { λ r. ⌜ r ≡ sumsOf ends (now (win .entry)) (system y) k ⌝ }
 {
     let mut s: i32 = 0;
     let mut z: u8 = 0;
     while z < ends {
-        let i = first + 3 * (z as usize);
-        s += win[i];
+        s += at(win, k, z as usize, y);
         z += 1;
     }
     s
 }
 
-// The sum of v over the ends in use.
+// That sum over the window.
 fn sums(win: &[i32], ends: u8, y: usize) -> [i32; 12]
-    requires { ⌜ Sized (now win) × Ends ends × (y < 3) ⌝ }
+    requires { ⌜ SumInput (now win) ends 0 y ⌝ }
     ensures { λ r. ⌜ r ≡ upTo 12 (sumsOf ends (now (win .entry)) (system y)) ⌝ }
 {
     let mut t = [0i32; 12];
     let mut k: usize = 0;
     while k < 12 {
-        let x = sum_at(win, ends, 12 * k + y);
+        let x = sum_at(win, ends, k, y);
         t[k] = x;
         k += 1;
     }
@@ -100,8 +101,8 @@ fn sums(win: &[i32], ends: u8, y: usize) -> [i32; 12]
 
 // R, twice the restraint.
 fn twice_restraint(v: Setting, win: &[i32], y: usize) -> u32
-    requires { ⌜ Measurable v (now win) × (y < 3) ⌝ }
-    ensures { λ r. ⌜ (r ≡ twiceRestraint v (now (win .entry)) (system y)) × (r ≤ 25600000) ⌝ }
+    requires { ⌜ SystemInput v (now win) y ⌝ }
+    ensures { λ r. ⌜ r ≡ twiceRestraint v (now (win .entry)) (system y) ⌝ }
 {
     let ends = v.ends;
     if ends == 2 {
@@ -118,8 +119,8 @@ fn twice_restraint(v: Setting, win: &[i32], y: usize) -> u32
 
 // D, R, H2 and H5 of system y.
 fn system_currents(v: Setting, win: &[i32], y: usize) -> Currents
-    requires { ⌜ Measurable v (now win) × (y < 3) ⌝ }
-    ensures { λ r. ⌜ (r ≡ currentsOf v (now (win .entry)) (system y)) × Ranged r ⌝ }
+    requires { ⌜ SystemInput v (now win) y ⌝ }
+    ensures { λ r. ⌜ r ≡ currentsOf v (now (win .entry)) (system y) ⌝ }
 {
     let u = sums(win, v.ends, y);
     Currents {
@@ -136,10 +137,26 @@ fn or(a: bool, b: bool) -> bool
     if a { true } else { b }
 }
 
-// What is measured of a system, from its currents and whether it is blocked.
-fn system_reading(v: Setting, c: Currents, blocked: bool) -> Reading
-    requires { ⌜ (v .basic ≤ 2 * v .third) × Ranged c ⌝ }
-    ensures { λ r. ⌜ r ≡ record { d = c .d; r = c .r; h2 = c .h2; h5 = c .h5; start = startsOf v (c .d) (c .r); blocked = blocked } ⌝ }
+// Whether all systems are blocked: with common blocking on, when any has harmonics.
+fn common(on: bool, a: bool, b: bool, c: bool) -> bool
+    ensures { λ r. ⌜ r ≡ (on && (a || (b || c))) ⌝ }
+{
+    if on {
+        if a {
+            return true;
+        }
+        if b {
+            return true;
+        }
+        return c;
+    }
+    false
+}
+
+// What is measured of a system, from its currents, whether it has harmonics, and whether all are blocked.
+fn system_reading(v: Setting, c: Currents, own: bool, any: bool) -> Reading
+    requires { ⌜ v .basic ≤ 2 * v .third ⌝ }
+    ensures { λ r. ⌜ r ≡ record { d = c .d; r = c .r; h2 = c .h2; h5 = c .h5; start = startsOf v (c .d) (c .r); blocked = own || any } ⌝ }
 {
     Reading {
         d: c.d,
@@ -147,7 +164,7 @@ fn system_reading(v: Setting, c: Currents, blocked: bool) -> Reading
         h2: c.h2,
         h5: c.h5,
         start: characteristic::starts(v, c),
-        blocked: blocked,
+        blocked: or(own, any),
     }
 }
 
@@ -162,14 +179,10 @@ pub fn measure(v: Setting, win: &[i32]) -> Readings
     let in_a = characteristic::harmonics(v, a);
     let in_b = characteristic::harmonics(v, b);
     let in_c = characteristic::harmonics(v, c);
-    let any = if v.flags / 4 % 2 == 1 {
-        or(in_a, or(in_b, in_c))
-    } else {
-        false
-    };
+    let any = common(v.flags / 4 % 2 == 1, in_a, in_b, in_c);
     Readings {
-        a: system_reading(v, a, or(in_a, any)),
-        b: system_reading(v, b, or(in_b, any)),
-        c: system_reading(v, c, or(in_c, any)),
+        a: system_reading(v, a, in_a, any),
+        b: system_reading(v, b, in_b, any),
+        c: system_reading(v, c, in_c, any),
     }
 }

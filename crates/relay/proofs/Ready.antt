@@ -23,7 +23,7 @@ use Rattle.setting.proofs.LimitLaws.{startable-is}
 use Rattle.matching.specs.Sets.{System, sysA, sysB, sysC, seen, phases, matchedAt, numbers, system}
 use Rattle.matching.specs.Bank.{InReach, MatchedBound}
 use Rattle.matching.specs.Sized.{Accepted}
-use Rattle.measuring.specs.Sized.{Measurable}
+use Rattle.measuring.specs.WindowInput.{Measurable}
 use Rattle.record.specs.declared.Window.{Window}
 use Rattle.record.proofs.Placed.{Sized, zero-sized, numbers-sized, placed-sized}
 use Rattle.relay.specs.declared.Relay.{Relay}

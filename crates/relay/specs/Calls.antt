@@ -24,7 +24,7 @@ use Rattle.relay.specs.declared.Answer.the-variants.{Filling, Measured, 
 use Rattle.relay.specs.declared.Sampled.{Sampled}
 use Rattle.relay.specs.declared.Returned.{Returned}
 use Rattle.characteristic.specs.Characteristic.{counts}
-use Rattle.measuring.specs.Sized.{Measurable}
+use Rattle.measuring.specs.WindowInput.{Measurable}
 use Rattle.measuring.specs.Measuring.{differential, start, blocked, readingOf}
 use Rattle.record.specs.Record.{elementOf, perSystem, elementAfter, clear, placed}
 use Rattle.relay.specs.Record.{fresh, admissible}

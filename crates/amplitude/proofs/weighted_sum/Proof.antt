@@ -2,74 +2,87 @@
 -- The measure is what is left of the twelve.
 use borrow.Author.Needs.{needs}
 use mathlib.Core.Path.{_≡_, refl}
-use Prim.Native.Nat.{_*_, _-_, _^_, _≤_}
+use mathlib.Core.List.{List}
+use Prim.Native.Nat.{ℕ, _+_, _*_, _-_, _%_, _≤_, _<_}
+use native.Mathlib.Nat.{mul-le-mul}
 use native.Mathlib.Omega.{arith}
 use lib.IntN.{ℤ, _+ℤ_, _*ℤ_}
 use mir.Syntax.{w32, w64}
-use mir.Val.{SFits, ofZ}
+use mir.Val.{SFits, toZ, ofZ}
 use mir.Facts.{sfits-widen}
-use Rattle.integer.specs.Within.{_within_}
 use Rattle.integer.specs.Sum as S
-use Rattle.integer.proofs.Reading.{ints, arithℤ}
-use Rattle.integer.proofs.Laws.{within-*, within-+}
+use Rattle.integer.proofs.Laws.{within-*}
 use Rattle.integer.proofs.Machine.{fits, back, back-within}
 use Rattle.integer.proofs.SumLaws.{sum-next}
-use Rattle.amplitude.specs.Amplitude.{inOrder}
-use Rattle.amplitude.specs.Sized.{rowSum}
-use Rattle.amplitude.proofs.Bounds.{partial, partial-within}
+use Rattle.amplitude.specs.Amplitude.{t, weightedSum, inOrder}
+use Rattle.amplitude.specs.CycleInput.{CycleInput}
+use Rattle.amplitude.proofs.Bounds.{t-within, constant, partial, partial-within}
 use Rattle.amplitude.proofs.weighted_sum.Statement.{statement}
 use Rattle.amplitude.proofs.weighted_sum.Tie as tie
 
-small : {x : ℤ} → SFits w32 x → x within 2 ^ 31
-small h = simp ints (omega arithℤ)
+-- the product of the number k as the machine works it out, and the sum so far with it
+module _ (h from : ℕ) {us : List ℤ} (z : CycleInput us) (k : ℕ) where
+  abbrev product : ℤ
+  product = toZ w64 (ofZ w64 (constant h from k)) *ℤ toZ w64 (ofZ w64 (toZ w32 (ofZ w32 (inOrder us k))))
 
--- a product of two numbers of 32 bits, and the sum with it
-product-fits : {x y : ℤ} → SFits w32 x → SFits w32 y → SFits w64 (x *ℤ y)
-product-fits h k = fits (within-* (small h) (small k)) w64 refl
+  product-is : product ≡ constant h from k *ℤ inOrder us k
+  product-is = simp (back-within (t-within ((h * k + from) % 12)), back-within (z .small k))
 
-sum-fits : {x y z : ℤ} → z within (12 * (1560 * 3200000)) → SFits w32 x → SFits w32 y → SFits w64 (z +ℤ x *ℤ y)
-sum-fits l h k = fits (within-+ l (within-* (small h) (small k))) w64 refl
+  product-fits : SFits w64 product
+  product-fits = rw product-is (fits (within-* (t-within _) (z .small k)) w64 refl)
+
+  module _ (l : k < 12) where
+    total-is : toZ w64 (ofZ w64 (partial h from us k)) +ℤ toZ w64 (ofZ w64 product) ≡ partial h from us (k + 1)
+    total-is = rw (back product-fits, product-is, back-within (partial-within h from z k (omega arith)) w64 refl, sum-next)
+
+    total-fits : SFits w64 (toZ w64 (ofZ w64 (partial h from us k)) +ℤ toZ w64 (ofZ w64 product))
+    total-fits = rw total-is (fits (partial-within h from z (k + 1) (omega arith)) w64 refl)
 
 abbrev Inv-loop : tie.InvT-loop
-Inv-loop u weights sum₀ k₀ sum k = (k ≤ 12) × (sum ≡ ofZ w64 (partial (inOrder weights) (inOrder u) k))
+Inv-loop h from u t sum₀ k₀ sum k = (k ≤ 12) × (sum ≡ ofZ w64 (partial h from u k))
 
 abbrev μ-loop : tie.MeasureT-loop
-μ-loop u weights sum₀ k₀ sum k = 12 - k
+μ-loop h from u t sum₀ k₀ sum k = 12 - k
 
 loop-holds : tie.Need-loop-holds Inv-loop μ-loop
 unfolding S.sum
 loop-holds c = (omega arith, refl)
 
+-- hk, and hk + from
+at-most : (c : tie.In-loop Inv-loop μ-loop) → c .before .before .args .h * c .before .loop .k ≤ 256 * 12
+at-most c = mul-le-mul {n₂ = 256} {m₂ = 12} (omega arith) (omega arith)
+
 mul-sum : tie.Need-mul-sum Inv-loop μ-loop
-mul-sum c = omega arith
+mul-sum c = omega (arith, at-most c)
 
-array-copy-out-sum : tie.Need-array-copy-out-sum Inv-loop μ-loop
-array-copy-out-sum c = omega arith
-
-cast-sum : tie.Need-cast-sum Inv-loop μ-loop
-cast-sum c = search (needs, sfits-widen)
+add-sum : tie.Need-add-sum Inv-loop μ-loop
+add-sum c = omega (arith, at-most c)
 
 mul-sum-2 : tie.Need-mul-sum-2 Inv-loop μ-loop
 mul-sum-2 c = omega arith
 
+array-copy-out-sum : tie.Need-array-copy-out-sum Inv-loop μ-loop
+array-copy-out-sum c = omega arith
+
+mul-sum-3 : tie.Need-mul-sum-3 Inv-loop μ-loop
+mul-sum-3 c = omega arith
+
 array-copy-out-sum-2 : tie.Need-array-copy-out-sum-2 Inv-loop μ-loop
 array-copy-out-sum-2 c = omega arith
 
-cast-sum-2 : tie.Need-cast-sum-2 Inv-loop μ-loop
-cast-sum-2 c = search (needs, sfits-widen)
+cast-sum : tie.Need-cast-sum Inv-loop μ-loop
+cast-sum c = search (needs, sfits-widen)
 
-mul-sum-3 : tie.Need-mul-sum-3 Inv-loop μ-loop
-mul-sum-3 c = rw (back (cast-sum (c .before)), back (cast-sum-2 c)) (search (needs, product-fits))
+mul-sum-4 : tie.Need-mul-sum-4 Inv-loop μ-loop
+unfolding t
+mul-sum-4 c = let at = c .before .before .before in let a = at .before .args in product-fits (a .h) (a .from) (at .before .pre) (at .loop .k)
 
--- the sum so far
-so-far : (c : tie.At-loop Inv-loop μ-loop) → partial (inOrder (c .before .args .t2)) (inOrder (c .before .args .t1)) (c .loop .k) within (12 * (1560 * 3200000))
-so-far c = partial-within (c .before .pre .1) (c .before .pre .0) (c .loop .k) (c .loop .inv .0)
-
-add-sum : tie.Need-add-sum Inv-loop μ-loop
-add-sum c =
+add-sum-2 : tie.Need-add-sum-2 Inv-loop μ-loop
+unfolding t
+add-sum-2 c =
     let at = c .before .before .before in
-    rw (back (mul-sum-3 c), back (cast-sum (c .before)), back (cast-sum-2 c), at .loop .inv .1, back-within (so-far at) w64 refl)
-    (search (needs, sum-fits, so-far at))
+    let a = at .before .args in
+    rw (at .loop .inv .1) (total-fits (a .h) (a .from) (at .before .pre) (at .loop .k) (omega arith))
 
 add-k : tie.Need-add-k Inv-loop μ-loop
 add-k c = omega arith
@@ -78,18 +91,19 @@ loop-less : tie.Need-loop-less Inv-loop μ-loop
 loop-less c = omega arith
 
 loop-again : tie.Need-loop-again Inv-loop μ-loop
+unfolding t
 loop-again c =
-    let at = c .before .before .before in (
-      omega arith,
-      rw (back (mul-sum-3 c), back (cast-sum (c .before)), back (cast-sum-2 c), at .loop .inv .1, back-within (so-far at) w64 refl, sum-next)
-          (search needs),
-    )
+    let at = c .before .before .before in
+    let a = at .before .args in
+    (omega arith, rw (at .loop .inv .1, total-is (a .h) (a .from) (at .before .pre) (at .loop .k) (omega arith)))
 
 returns : tie.Need-returns Inv-loop μ-loop
-unfolding rowSum
+unfolding weightedSum
 returns c =
-    let all : c .before .loop .k ≡ 12 = omega arith in
-    rw (c .before .loop .inv .1, back-within (so-far (c .before)) w64 refl, all)
+    let at = c .before in
+    let a = at .before .args in
+    let all : at .loop .k ≡ 12 = omega arith in
+    rw (at .loop .inv .1, all, back-within (partial-within (a .h) (a .from) (at .before .pre) 12 (omega arith)) w64 refl)
 
 pub weighted-sum-spec : {M : Type 1} → statement M
 weighted-sum-spec =
@@ -99,13 +113,14 @@ weighted-sum-spec =
     μ-loop
     loop-holds
     mul-sum
-    array-copy-out-sum
-    cast-sum
-    mul-sum-2
-    array-copy-out-sum-2
-    cast-sum-2
-    mul-sum-3
     add-sum
+    mul-sum-2
+    array-copy-out-sum
+    mul-sum-3
+    array-copy-out-sum-2
+    cast-sum
+    mul-sum-4
+    add-sum-2
     add-k
     loop-less
     loop-again

@@ -1,47 +1,36 @@
--- `block::bits` meets its contract: below zero, −1 − x is the number of the inverted bits, so it fits 15 bits and 65,535 less it are the bits of x.
-use mathlib.Core.Path.{_≡_, refl}
-use mathlib.Core.Bool.{true, false}
-use Prim.Native.Nat.{_-_}
+-- `block::bits` meets its contract: x + 65,536 is not negative, and its remainder modulo 65,536 is x, or, below zero, x + 65,536.
+use borrow.Author.Needs.{needs}
+use mathlib.Core.Path.{_≡_}
+use Prim.Native.Nat.{_-_, _%_}
 use native.Mathlib.Omega.{arith}
-use lib.IntN.{ℤ, pos, negsuc, natAbs, _-ℤ_}
-use lib.Signed.{ltZ}
+use lib.IntN.{ℤ, pos, negsuc, natAbs, _+ℤ_}
+use mir.Syntax.{w16}
+use mir.Val.{SFits}
+use mir.Facts.{sfits-widen}
 use Rattle.integer.proofs.Reading.{ints, arithℤ}
 use Rattle.integer.proofs.Machine.{back}
 use Rattle.block.specs.Bytes.{bits}
 use Rattle.block.proofs.bits.Statement.{statement}
 use Rattle.block.proofs.bits.Tie as tie
 
-negative : (c : tie.Then1) → ltZ (c .before .args .x) (pos 0) ≡ true
-negative c = rw (back (c .before .fits .x)) at (c .if1 .taken)
-
-positive : (c : tie.Else1) → ltZ (c .before .args .x) (pos 0) ≡ false
-positive c = rw (back (c .before .fits .x)) at (c .if1 .left)
-
-bits-neg : (x : ℤ) → ltZ x (pos 0) ≡ true → 65535 - natAbs (negsuc 0 -ℤ x) ≡ bits x
-bits-neg (pos n) = simp ints (omega arith)
-bits-neg (negsuc n) = λ h. let e : negsuc 0 -ℤ negsuc n ≡ pos n = simp ints (omega arith) in rw e
-
-bits-pos : (x : ℤ) → ltZ x (pos 0) ≡ false → natAbs x ≡ bits x
-bits-pos (pos n) = λ h. refl
-bits-pos (negsuc n) = simp ints (omega arith)
-
-sub-result : tie.Need-sub-result
-sub-result c = rw (back (c .before .fits .x)) (simp ints (omega (arithℤ, simp ints at (negative c))))
+remainder : (x : ℤ) → SFits w16 x → natAbs (x +ℤ pos 65536) % 65536 ≡ bits x
+remainder (pos n) h = omega (arith, h .sfits)
+remainder (negsuc n) h = let e : negsuc n +ℤ pos 65536 ≡ pos (65535 - n) = simp ints (omega (arith, h .sfits)) in rw e (omega arith)
 
 cast-result : tie.Need-cast-result
-cast-result c = rw (back (sub-result c), back (c .before .fits .x)) (simp ints (omega (arithℤ, simp ints at (negative c))))
+cast-result c = search (needs, sfits-widen)
 
-sub-result-2 : tie.Need-sub-result-2
-sub-result-2 c = rw (back (sub-result c), back (c .before .fits .x)) (simp ints (omega arithℤ))
+add-result : tie.Need-add-result
+add-result c = rw (back (cast-result c), back (c .fits .x)) (simp ints (omega arithℤ))
 
 cast-result-2 : tie.Need-cast-result-2
-cast-result-2 c = rw (back (c .before .fits .x)) (simp ints (omega (arithℤ, simp ints at (positive c))))
+cast-result-2 c = rw (back (add-result c), back (cast-result c), back (c .fits .x)) (simp ints (omega arithℤ))
+
+cast-result-3 : tie.Need-cast-result-3
+cast-result-3 c = search needs
 
 returns : tie.Need-returns
-returns c = rw (back (sub-result c), back (c .before .fits .x)) (bits-neg (c .before .args .x) (negative c))
-
-returns-2 : tie.Need-returns-2
-returns-2 c = rw (back (c .before .fits .x)) (bits-pos (c .before .args .x) (positive c))
+returns c = rw (back (add-result c), back (cast-result c), back (c .fits .x)) (remainder (c .args .x) (c .fits .x))
 
 pub bits-spec : {M : Type 1} → statement M
-bits-spec = tie.close (tie.spec sub-result cast-result sub-result-2 cast-result-2 returns returns-2)
+bits-spec = tie.close (tie.spec cast-result add-result cast-result-2 cast-result-3 returns)

@@ -1,14 +1,12 @@
 -- `measuring::series` meets its contract. The loop's invariant: the first k places hold the end's numbers. The measure is what is left of the twelve.
 use borrow.Author.Needs.{needs}
-use mathlib.Core.Path.{refl, _∙_}
+use mathlib.Core.Path.{refl}
 use Prim.Native.Nat.{_-_}
 use lib.IntN.{pos}
-use mir.Syntax.{w32}
-use Rattle.integer.proofs.Machine.{back-within}
+use Rattle.integer.proofs.Fill.{Filled, filled-none, filled-more, filled-all}
 use Rattle.matching.specs.Sets.{system}
 use Rattle.measuring.specs.Window.{series}
-use Rattle.integer.proofs.Fill.{Filled, filled-none, filled-more, filled-all}
-use Rattle.measuring.proofs.Places.{index-system}
+use Rattle.measuring.proofs.Places.{read}
 use Rattle.measuring.proofs.series.Statement.{statement}
 use Rattle.measuring.proofs.series.Tie as tie
 
@@ -21,23 +19,8 @@ abbrev μ-loop : tie.MeasureT-loop
 loop-holds : tie.Need-loop-holds Inv-loop μ-loop
 loop-holds c = filled-none refl
 
-mul-i : tie.Need-mul-i Inv-loop μ-loop
-mul-i c = search needs
-
-mul-i-2 : tie.Need-mul-i-2 Inv-loop μ-loop
-mul-i-2 c = search needs
-
-add-i : tie.Need-add-i Inv-loop μ-loop
-add-i c = search needs
-
-add-i-2 : tie.Need-add-i-2 Inv-loop μ-loop
-add-i-2 c = search needs
-
-mul-x : tie.Need-mul-x Inv-loop μ-loop
-mul-x c = search needs
-
-shared-slice-copy-out-x : tie.Need-shared-slice-copy-out-x Inv-loop μ-loop
-shared-slice-copy-out-x c = search needs
+at-requires : tie.Need-at-requires Inv-loop μ-loop
+at-requires c κs = search needs
 
 mul-t : tie.Need-mul-t Inv-loop μ-loop
 mul-t c = search needs
@@ -54,29 +37,13 @@ loop-less c = search needs
 loop-again : tie.Need-loop-again Inv-loop μ-loop
 loop-again c =
     let at = c .before .before in
-    let start = at .before in
+    let a = at .before .args in
     filled-more (at .loop .inv) (c .before .loop-test .taken)
-    (back-within (start .pre .0 .small _) w32 refl ∙ rw (index-system (start .args .y) (start .pre .2)))
+    (read (a .win .now) (at .loop .k) (a .z) (a .y) (at .before .pre .system) (c .at .ok) (c .at .ensures))
 
 returns : tie.Need-returns Inv-loop μ-loop
 returns c = filled-all (c .before .loop .inv) (c .loop-test .left)
 
 pub series-spec : {M : Type 1} → statement M
 series-spec =
-    tie.close
-    (tie.spec
-    Inv-loop
-    μ-loop
-    loop-holds
-    mul-i
-    mul-i-2
-    add-i
-    add-i-2
-    mul-x
-    shared-slice-copy-out-x
-    mul-t
-    array-set-from-t
-    add-k
-    loop-less
-    loop-again
-    returns)
+    tie.close (tie.spec Inv-loop μ-loop loop-holds at-requires mul-t array-set-from-t add-k loop-less loop-again returns)

@@ -4,11 +4,10 @@ use mathlib.Core.Path.{refl, _∙_}
 use Prim.Native.Nat.{_-_}
 use lib.IntN.{pos}
 use mir.Syntax.{w32}
+use Rattle.integer.proofs.Fill.{Filled, filled-none, filled-more, filled-all}
 use Rattle.integer.proofs.Machine.{back-ok}
 use Rattle.matching.specs.Sets.{system}
 use Rattle.measuring.specs.Window.{sums}
-use Rattle.integer.proofs.Fill.{Filled, filled-none, filled-more, filled-all}
-use Rattle.measuring.proofs.Places.{sums-at}
 use Rattle.measuring.proofs.sums.Statement.{statement}
 use Rattle.measuring.proofs.sums.Tie as tie
 
@@ -20,12 +19,6 @@ abbrev μ-loop : tie.MeasureT-loop
 
 loop-holds : tie.Need-loop-holds Inv-loop μ-loop
 loop-holds c = filled-none refl
-
-mul-sum-at : tie.Need-mul-sum-at Inv-loop μ-loop
-mul-sum-at c = search needs
-
-add-sum-at : tie.Need-add-sum-at Inv-loop μ-loop
-add-sum-at c = search needs
 
 sum-at-requires : tie.Need-sum-at-requires Inv-loop μ-loop
 sum-at-requires c κs = search needs
@@ -44,27 +37,12 @@ loop-less c = search needs
 
 loop-again : tie.Need-loop-again Inv-loop μ-loop
 loop-again c =
-    let at = c .before .before in
-    let start = at .before in
-    filled-more (at .loop .inv) (c .before .loop-test .taken)
-    (back-ok w32 (c .sum-at .result) (c .sum-at .ok) ∙ c .sum-at .ensures .0 ∙ sums-at (start .args .ends) (start .args .win .now) (at .loop .k) (start .args .y) (start .pre .2))
+    filled-more (c .before .before .loop .inv) (c .before .loop-test .taken)
+    (back-ok w32 (c .sum-at .result) (c .sum-at .ok) ∙ c .sum-at .ensures)
 
 returns : tie.Need-returns Inv-loop μ-loop
 returns c = filled-all (c .before .loop .inv) (c .loop-test .left)
 
 pub sums-spec : {M : Type 1} → statement M
 sums-spec =
-    tie.close
-    (tie.spec
-    Inv-loop
-    μ-loop
-    loop-holds
-    mul-sum-at
-    add-sum-at
-    sum-at-requires
-    mul-t
-    array-set-from-t
-    add-k
-    loop-less
-    loop-again
-    returns)
+    tie.close (tie.spec Inv-loop μ-loop loop-holds sum-at-requires mul-t array-set-from-t add-k loop-less loop-again returns)

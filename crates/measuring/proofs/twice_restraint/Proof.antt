@@ -27,14 +27,14 @@ difference-requires : tie.Need-difference-requires Inv-loop μ-loop
 difference-requires c κs = search needs
 
 amplitude-requires : tie.Need-amplitude-requires Inv-loop μ-loop
-amplitude-requires c κs = sized _ (c .difference .ensures) (difference-small (c .before .before .pre .0 .sized) (system (c .before .before .args .y)))
+amplitude-requires c κs = sized _ (c .difference .ensures) (difference-small (c .before .before .pre .measurable .sized) (system (c .before .before .args .y)))
 
 returns : tie.Need-returns Inv-loop μ-loop
 unfolding twiceRestraint
 returns c =
     let start = c .before .before .before in
     let ends : eqb (start .args .v .ends) 2 ≡ true = eq-eqb _ _ (c .before .before .if1 .taken) in
-    (c .amplitude .ensures .0 ∙ amplitude-is _ (c .before .difference .ensures) 1 ∙ rw ends, omega (arith, c .amplitude .ensures .1))
+    c .amplitude .ensures .is ∙ amplitude-is _ (c .before .difference .ensures) 1 ∙ rw ends
 
 loop-holds : tie.Need-loop-holds Inv-loop μ-loop
 loop-holds c = (omega arith, (refl, omega arith))
@@ -46,7 +46,9 @@ series-requires : tie.Need-series-requires Inv-loop μ-loop
 series-requires c κs = search needs
 
 amplitude-requires-2 : tie.Need-amplitude-requires-2 Inv-loop μ-loop
-amplitude-requires-2 c κs = sized _ (c .series .ensures) (series-small (c .before .before .before .before .pre .0 .sized) _ (system (c .before .before .before .before .args .y)))
+amplitude-requires-2 c κs =
+    let start = c .before .before .before .before in
+    sized _ (c .series .ensures) (series-small (start .pre .measurable .sized) _ (system (start .args .y)))
 
 add-r : tie.Need-add-r Inv-loop μ-loop
 add-r c = search needs
@@ -60,8 +62,8 @@ loop-less c = search needs
 loop-again : tie.Need-loop-again Inv-loop μ-loop
 loop-again c =
     let at = c .before .before .before in
-    let is = c .amplitude2 .ensures .0 ∙ amplitude-is _ (c .before .series .ensures) 1 in
-    (omega arith, (rw (add-one (at .loop .z), at .loop .inv .1 .0, is), omega (arith, c .amplitude2 .ensures .1)))
+    let is = c .amplitude2 .ensures .is ∙ amplitude-is _ (c .before .series .ensures) 1 in
+    (omega arith, (rw (add-one (at .loop .z), at .loop .inv .1 .0, is), omega (arith, c .amplitude2 .ensures)))
 
 returns-2 : tie.Need-returns-2 Inv-loop μ-loop
 unfolding twiceRestraint
@@ -70,7 +72,7 @@ returns-2 c =
     let start = at .before .before in
     let all : at .loop .z ≡ start .args .v .ends = omega arith in
     let ends : eqb (start .args .v .ends) 2 ≡ false = ne-eqb _ _ (at .before .if1 .left) in
-    (at .loop .inv .1 .0 ∙ rw (ends, all), omega (arith, start .pre .0 .ends))
+    at .loop .inv .1 .0 ∙ rw (ends, all)
 
 pub twice-restraint-spec : {M : Type 1} → statement M
 twice-restraint-spec =

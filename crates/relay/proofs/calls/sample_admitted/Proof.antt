@@ -13,7 +13,7 @@ use Rattle.integer.proofs.TestLaws.{each-append}
 use Rattle.refusal.specs.Refusals.{gives}
 use Rattle.refusal.proofs.Stops.{Passed, here, past}
 use Rattle.matching.specs.Sets.{numbers}
-use Rattle.measuring.specs.Sized.{Measurable}
+use Rattle.measuring.specs.WindowInput.{Measurable}
 use Rattle.relay.specs.declared.Relay.{Relay}
 use Rattle.record.specs.Record.{placed}
 use Rattle.relay.specs.declared.Sampled.{Sampled}
