@@ -11,9 +11,8 @@ use Rattle.integer.specs.Root.{rootBy}
 use Rattle.integer.specs.Sum.{sum}
 use Rattle.integer.specs.Lists.{upTo}
 use Rattle.refusal.specs.Refusals.{byOutcome, firstRefusal}
-use Rattle.setting.specs.declared.Setting.{Setting}
 use Rattle.setting.specs.Values.{fields, factor, factorHigh, factorsLow, valueRows, startRows}
-use Rattle.setting.specs.Worked.{rated, twoEnds}
+use Rattle.setting.specs.Worked.{rated, twoEnds, plain}
 use Rattle.matching.specs.Matching.{Three, three, operation, operated, matched}
 use Rattle.matching.specs.Sets.{sysA, sysB, sysC, seen}
 use Rattle.amplitude.specs.Amplitude.{t, weightedSum, cycle, amplitude}
@@ -76,19 +75,16 @@ flat k = pos 100
 window : (ℕ → ℤ) → List ℤ
 window u = upTo 144 (λ i. cond (eqb (i % 12) 0) (u (i / 12)) (pos 0))
 
-setting : Setting
-setting = twoEnds 1351 (rated 780 1000) (rated 780 1000)
-
 -- 1 where it starts
 starting : (R D : ℕ) → ℤ
-starting R D = cond (starts setting D R) (pos 1) (pos 0)
+starting R D = cond (starts plain D R) (pos 1) (pos 0)
 
 measurings : List Row
 measurings =
-    (pos (differential setting (window square) sysA), pos 128)
-    ∷ (pos (second setting (window square) sysA), pos 0)
-    ∷ (pos (fifth setting (window square) sysA), pos 34)
-    ∷ (pos (differential setting (window flat) sysA), pos 0)
+    (pos (differential plain (window square) sysA), pos 128)
+    ∷ (pos (second plain (window square) sysA), pos 0)
+    ∷ (pos (fifth plain (window square) sysA), pos 34)
+    ∷ (pos (differential plain (window flat) sysA), pos 0)
     ∷ (starting 200 201, pos 1)
     ∷ (starting 200 200, pos 0)
     ∷ (starting 1200 351, pos 1)
@@ -103,5 +99,6 @@ pub table : List Row
 table = settings ++ (matchings ++ measurings)
 
 pub table-met : map (λ r. r .0) table ≡ map (λ r. r .1) table
-unfolding table settings matchings measurings square flat window setting starting fields factor factorHigh factorsLow valueRows seen matched operated operation starts amplitude cycle weightedSum t sum nearest floor rootBy upTo
+unfolding table settings matchings measurings square flat window plain starting fields factor factorHigh factorsLow valueRows seen
+    matched operated operation starts amplitude cycle weightedSum t sum nearest floor rootBy upTo
 table-met = refl

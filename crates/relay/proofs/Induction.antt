@@ -12,21 +12,25 @@ use Rattle.relay.specs.Record.{fresh}
 use Rattle.relay.specs.Lists.{Call, after, run, Every}
 use Rattle.relay.proofs.Kept.{Valid, Step, step, fresh-admissible, valid-after}
 
--- What is to be given, for calls that are `Allowed`. In each step the record is valid, and the call does one of the three things that `Step` has.
+-- what is to be given, for calls that are `Allowed`
 pub record Invariant (v : Setting) (Allowed : Call → Type 0) : Type 1 where
+  -- the state that follows the calls
   pub State : Type 0
   pub start : State
   pub next : State → Call → State
+  -- the invariant, and what is shown of a call
   pub Inv : State → Relay → Type 0
   pub Shown : State → Relay → Call → Type 0
   pub first : Inv start (fresh v)
+  -- the record of a step is valid, and the call does one of the three things that `Step` has
   pub keeps : {g : State} {r s : Relay} {c : Call} → Valid v r → Inv g r → Allowed c → Step v r c s → Inv (next g c) s × Shown g r c
 
 module _ {v : Setting} {Allowed : Call → Type 0} (I : Invariant v Allowed) where
   -- every record of the list, and every call
   pub data Along : I .State → Relay → List Call → Type 0 where
     ends : {g : I .State} {r : Relay} → Valid v r → I .Inv g r → Along g r []
-    goes : {g : I .State} {r : Relay} {c : Call} {cs : List Call} → Valid v r → I .Inv g r → I .Shown g r c → Along (I .next g c) (after r c) cs → Along g r (c ∷ cs)
+    goes : {g : I .State} {r : Relay} {c : Call} {cs : List Call} → Valid v r → I .Inv g r → I .Shown g r c → Along (I .next g c) (after r c) cs →
+        Along g r (c ∷ cs)
 
   from : {g : I .State} {r : Relay} {cs : List Call} → Valid v r → I .Inv g r → Each Allowed cs → Along g r cs
   from h i none = ends h i

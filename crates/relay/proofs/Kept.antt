@@ -7,7 +7,9 @@ use Prim.Native.Nat.{ℕ}
 use native.Mathlib.Omega.{arith}
 use lib.Dec.{T, le→leb}
 use lib.IntN.{ℤ}
+use lib.ListN.{getD}
 use Rattle.integer.specs.Tests.{hold, none, _&_}
+use Rattle.integer.proofs.TestLaws.{is-true}
 use Rattle.refusal.specs.Refusals.{gives}
 use Rattle.setting.specs.declared.Setting.{Setting}
 use Rattle.setting.specs.Values.{startable}
@@ -16,7 +18,7 @@ use Rattle.record.specs.Record.{elementOf, perSystem, clear, countersWithin}
 use Rattle.record.proofs.Placed.{sized-test, placed-fill}
 use Rattle.record.proofs.Elements.{counters-test, element-≤}
 use Rattle.relay.specs.declared.Relay.{Relay}
-use Rattle.relay.specs.Record.{fresh, admissible}
+use Rattle.relay.specs.Record.{fresh, admissions, admissible}
 use Rattle.relay.specs.Calls.{accepted, windowAfter, elementNow, replyNow, relayNow, sampleReply, sampleRelay, resetReply, cleared}
 use Rattle.relay.specs.Lists.{Call, sample, reset, after}
 use Rattle.relay.proofs.Admission.{is-T, admitted, admissible-of}
@@ -25,17 +27,19 @@ use Rattle.relay.proofs.Ready.{reach, window-sized}
 
 -- ---- records that are admissible
 
-none-counted : (M : ℕ) → T (hold (countersWithin M (perSystem (λ l. clear))))
-none-counted M = counters-test M (λ l. clear) (λ l. omega arith)
+none-counted : (M : ℕ) → hold (countersWithin M (perSystem (λ l. clear))) ≡ true
+none-counted M = is-true (counters-test M (λ l. clear) (λ l. omega arith))
 
 pub fresh-admissible : (v : Setting) → T (startable v) → admissible (fresh v) ≡ true
-unfolding fresh
-fresh-admissible v s = admissible-of _ (s & tt & tt & none-counted (v .confirm) & none)
+unfolding admissible fresh
+fresh-admissible v s = let sound : startable v ≡ true = is-true s in rw (sound, none-counted (v .confirm))
 
 module _ (r : Relay) (a : admissible r ≡ true) where
   cleared-admissible : admissible (cleared r) ≡ true
-  unfolding cleared
-  cleared-admissible = admissible-of _ (admitted r a 0 & admitted r a 1 & admitted r a 2 & none-counted (r .setting .confirm) & none)
+  unfolding admissible cleared
+  cleared-admissible =
+      let at : (k : ℕ) → getD (admissions r) k true ≡ true = λ k. is-true (admitted r a k) in
+      simp (at 0, at 1, at 2, none-counted (r .setting .confirm))
 
   -- with an accepted set filed
   now-admissible : (xs : List ℤ) → T (accepted (r .setting) xs) → admissible (relayNow r (windowAfter r xs)) ≡ true

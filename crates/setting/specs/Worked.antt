@@ -54,6 +54,10 @@ twoEnds s a b =
       fifth = 30;
     }
 
+-- with K 65,536 at both ends: the setting of 01's windows, starts and bench run
+unfoldable pub plain : Setting
+plain = twoEnds 1351 (rated 780 1000) (rated 780 1000)
+
 -- the factory setting (02, card 14): S 40 MVA; 110 kV and 300 A, group 0, filter on; 20 kV and 1,200 A, group 5, filter off
 unfoldable pub factory : Setting
 factory =

@@ -34,15 +34,15 @@ module _ {v : Setting} {ws : List (List ℤ)} {r : Relay} (h : Valid v r) (f : F
   pub window-now : (xs : List ℤ) → windowAfter r xs ≡ windowOf (last12 (ws ++ (numbers v xs ∷ [])))
   window-now xs = rw (h .same, f .window) (filed-window (f .twelves) (numbers v xs))
 
-  pub filed-keeps : {s : Relay} {c : Call} → Step v r c s → Filed (filing v ws c) s
+  pub filed-kept : {s : Relay} {c : Call} → Step v r c s → Filed (filing v ws c) s
   unfolding relayNow cleared numbers
-  filed-keeps (files {xs = xs} e o) = rw e (record { window = window-now xs; twelves = each-append (f .twelves) (length-upTo 12 _ & none) })
-  filed-keeps (declines e o) = rw e f
-  filed-keeps (clears o) = record { window = f .window; twelves = f .twelves }
+  filed-kept (files {xs = xs} e o) = rw e (record { window = window-now xs; twelves = each-append (f .twelves) (length-upTo 12 _ & none) })
+  filed-kept (declines e o) = rw e f
+  filed-kept (clears o) = record { window = f .window; twelves = f .twelves }
 
 abbrev invariant : (v : Setting) → Invariant v (λ c. Unit {0})
 invariant v =
-    record { State = _; start = []; next = filing v; Inv = Filed; Shown = λ ws r c. Unit {0}; first = filed-fresh v; keeps = λ h f p k. (filed-keeps h f k, tt) }
+    record { State = _; start = []; next = filing v; Inv = Filed; Shown = λ ws r c. Unit {0}; first = filed-fresh v; keeps = λ h f p k. (filed-kept h f k, tt) }
 
 after-run : (v : Setting) → T (startable v) → (cs : List Call) → Valid v (run (fresh v) cs) × Filed (filed v cs) (run (fresh v) cs)
 after-run v s cs = last (invariant v) (along (invariant v) s (any-call cs))

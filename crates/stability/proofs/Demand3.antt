@@ -20,6 +20,7 @@ use Rattle.integer.proofs.TestLaws.{each-get, each-append}
 use Rattle.integer.proofs.Places.{getD-upTo}
 use Rattle.setting.specs.declared.Setting.{Setting}
 use Rattle.setting.specs.Values.{startable}
+use Rattle.setting.specs.Worked.{plain}
 use Rattle.setting.proofs.LimitLaws.{startable-is}
 use Rattle.matching.specs.Sets.{System, sysA, sysB, sysC, index, system, matchedAt, numbers, numberAt}
 use Rattle.matching.specs.Bank.{Healthy, total, TotalBound}
@@ -46,8 +47,8 @@ use Rattle.relay.proofs.Induction.{Invariant, along, last, every}
 use Rattle.stability.specs.Lists.{last12, windowOf, filing}
 use Rattle.stability.proofs.Filing.{Twelve, each-last12, flat-at}
 use Rattle.stability.specs.Stability.{HealthyCall, Calm, CalmReply, CalmCall, NoLatch, Stability}
-use Rattle.stability.specs.Example.{plain, latchAfter, fault-trips, FaultUnhealthy}
-use Rattle.stability.proofs.Demand2.{Filed, filed-fresh, window-now, filed-keeps}
+use Rattle.stability.specs.Example.{latchAfter, fault-trips, FaultUnhealthy}
+use Rattle.stability.proofs.Demand2.{Filed, filed-fresh, window-now, filed-kept}
 
 -- the sums over the ends are small
 abbrev Close : Setting → List ℤ → Type 0
@@ -155,13 +156,13 @@ module _ (v : Setting) (s : T (startable v)) where
   unfolding cleared
   keeps h q hc (files {xs = xs} e o) =
       let now = window-now h (q .filed) xs in
-      let filed = rw e at (filed-keeps h (q .filed) (files e o)) in
+      let filed = rw e at (filed-kept h (q .filed) (files e o)) in
       let close = each-append (q .close) (numbers-close xs (is-T e) (hc (is-T e)) & none) in (
         rw e (record { filed = filed; close = close; no-latch = rw now (latches-no (filed .twelves) close h (q .no-latch)) }),
         rw (o, now) (calm-reply (filed .twelves) close h (q .no-latch)),
       )
   keeps h q hc (declines e o) = (rw e q, rw (o .is) (o .not-12))
-  keeps h q hc (clears o) = (record { filed = filed-keeps h (q .filed) (clears o); close = q .close; no-latch = none-latched }, rw o tt)
+  keeps h q hc (clears o) = (record { filed = filed-kept h (q .filed) (clears o); close = q .close; no-latch = none-latched }, rw o tt)
 
   quiet-fresh : Quiet v [] (fresh v)
   unfolding fresh

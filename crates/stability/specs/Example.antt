@@ -5,9 +5,8 @@ use mathlib.Core.Bool.{Bool, true, false}
 use mathlib.Core.List.{List, [], _∷_, _++_}
 use lib.IntN.{pos}
 use lib.ListN.{replicate}
-use Rattle.setting.specs.declared.Setting.{Setting}
 use Rattle.setting.specs.Values.{startable, factor, factorHigh, factorsLow, valueRows, fields}
-use Rattle.setting.specs.Worked.{rated, twoEnds}
+use Rattle.setting.specs.Worked.{plain}
 use Rattle.integer.specs.Nearest.{nearest, floor}
 use Rattle.integer.specs.Root.{rootBy}
 use Rattle.integer.specs.Sum.{sum}
@@ -24,10 +23,6 @@ use Rattle.relay.specs.Calls.{setRows, sampleRows, relayNow}
 use Rattle.relay.specs.Lists.{Call, sample, run}
 use Rattle.stability.specs.Stability.{HealthyCall}
 
--- two ends of group 0 with K 65,536, no filter, no blocking, M 1, P 200, m1 30, H 8,000
-pub plain : Setting
-plain = twoEnds 1351 (rated 780 1000) (rated 780 1000)
-
 -- twelve zero sets but for 3,000 on phase A of end 0 in the last
 pub fault : List Call
 fault = replicate 11 (sample (replicate 12 (pos 0))) ++ (sample (pos 3000 ∷ replicate 11 (pos 0)) ∷ [])
@@ -36,7 +31,8 @@ unfoldable pub latchAfter : System → Bool
 latchAfter l = elementOf (run (fresh plain) fault .trip) l .latch
 
 pub fault-trips : startable plain ∷ latchAfter sysA ∷ latchAfter sysB ∷ latchAfter sysC ∷ [] ≡ true ∷ true ∷ false ∷ false ∷ []
-unfolding plain fault latchAfter factor factorHigh factorsLow valueRows fields nearest floor rootBy sum upTo operation operated matched seen matchedAt numbers t weightedSum cycle amplitude twiceRestraint harmonics blocked starts hasHarmonics elementAfter fresh admissible placed sampleRows setRows relayNow eqZ
+unfolding plain fault latchAfter factor factorHigh factorsLow valueRows fields nearest floor rootBy sum upTo operation operated matched seen matchedAt numbers
+    t weightedSum cycle amplitude twiceRestraint harmonics blocked starts hasHarmonics elementAfter fresh admissible placed setRows sampleRows relayNow eqZ
 fault-trips = refl
 
 -- not each of these sets is that of a healthy bank

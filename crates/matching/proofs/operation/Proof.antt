@@ -2,22 +2,36 @@
 use mathlib.Core.Path.{_≡_, refl, sym}
 use Prim.Native.Nat.{ℕ, zero, suc, zero-le, _^_, _≤_}
 use native.Mathlib.Omega.{arith}
-use lib.IntN.{ℤ, pos}
+use lib.IntN.{ℤ, pos, negℤ, _-ℤ_}
 use lib.ListN.{List·getD-eq-default}
+use mir.Syntax.{w64}
+use mir.Val.{SFits}
+use Rattle.integer.specs.Within.{_within_}
 use Rattle.matching.specs.Matching.{operation}
-use Rattle.matching.proofs.Bits.{Number, given, fits, read, minus, negated}
+use Rattle.matching.proofs.Bits.{kept, given, fits, read, minus, negated}
 use Rattle.matching.proofs.operation.Statement.{statement}
 use Rattle.matching.proofs.operation.Tie as tie
 
-module _ (c : tie.Start) where
-  p : Number (c .args .p) (c .args .p) (2 ^ 20)
-  p = given (c .pre .own) refl
+-- ---- what an arm may be: a number, the difference of two, a number negated
 
-  n : Number (c .args .n) (c .args .n) (2 ^ 20)
-  n = given (c .pre .next) refl
+module _ (a : ℤ) (h : a within 2 ^ 20) where
+  alone : kept a ≡ a
+  alone = read (given h refl)
 
-  q : Number (c .args .q) (c .args .q) (2 ^ 20)
-  q = given (c .pre .before) refl
+  negated-fits : SFits w64 (pos 0 -ℤ kept a)
+  negated-fits = fits (negated (given h refl))
+
+  negated-is : kept (pos 0 -ℤ kept a) ≡ negℤ a
+  negated-is = read (negated (given h refl))
+
+  module _ (b : ℤ) (k : b within 2 ^ 20) where
+    minus-fits : SFits w64 (kept a -ℤ kept b)
+    minus-fits = fits (minus (given h refl) (given k refl) refl)
+
+    minus-is : kept (kept a -ℤ kept b) ≡ a -ℤ b
+    minus-is = read (minus (given h refl) (given k refl) refl)
+
+ruleset arms = (alone, negated-fits, negated-is, minus-fits, minus-is)
 
 -- ---- beyond the last group
 
@@ -41,25 +55,25 @@ unfolding operation
 operation-spec =
     tie.close
     (tie.spec
-    (λ c. fits (minus (p (c .before)) (n (c .before)) refl))
-    (λ c. fits (negated (n (c .before))))
-    (λ c. fits (minus (q (c .before)) (n (c .before)) refl))
-    (λ c. fits (minus (q (c .before)) (p (c .before)) refl))
-    (λ c. fits (negated (p (c .before))))
-    (λ c. fits (minus (n (c .before)) (p (c .before)) refl))
-    (λ c. fits (minus (n (c .before)) (q (c .before)) refl))
-    (λ c. fits (negated (q (c .before))))
-    (λ c. fits (minus (p (c .before)) (q (c .before)) refl))
-    (λ c. rw (c .match .keys1) (read (p (c .before))))
-    (λ c. rw (c .match .keys2) (read (minus (p (c .before)) (n (c .before)) refl)))
-    (λ c. rw (c .match .keys3) (read (negated (n (c .before)))))
-    (λ c. rw (c .match .keys4) (read (minus (q (c .before)) (n (c .before)) refl)))
-    (λ c. rw (c .match .keys5) (read (q (c .before))))
-    (λ c. rw (c .match .keys6) (read (minus (q (c .before)) (p (c .before)) refl)))
-    (λ c. rw (c .match .keys7) (read (negated (p (c .before)))))
-    (λ c. rw (c .match .keys8) (read (minus (n (c .before)) (p (c .before)) refl)))
-    (λ c. rw (c .match .keys9) (read (n (c .before))))
-    (λ c. rw (c .match .keys10) (read (minus (n (c .before)) (q (c .before)) refl)))
-    (λ c. rw (c .match .keys11) (read (negated (q (c .before)))))
-    (λ c. rw (c .match .keys12) (read (minus (p (c .before)) (q (c .before)) refl)))
+    (λ c. search (arms, c .before .pre))
+    (λ c. search (arms, c .before .pre))
+    (λ c. search (arms, c .before .pre))
+    (λ c. search (arms, c .before .pre))
+    (λ c. search (arms, c .before .pre))
+    (λ c. search (arms, c .before .pre))
+    (λ c. search (arms, c .before .pre))
+    (λ c. search (arms, c .before .pre))
+    (λ c. search (arms, c .before .pre))
+    (λ c. rw (c .match .keys1) (search (arms, c .before .pre)))
+    (λ c. rw (c .match .keys2) (search (arms, c .before .pre)))
+    (λ c. rw (c .match .keys3) (search (arms, c .before .pre)))
+    (λ c. rw (c .match .keys4) (search (arms, c .before .pre)))
+    (λ c. rw (c .match .keys5) (search (arms, c .before .pre)))
+    (λ c. rw (c .match .keys6) (search (arms, c .before .pre)))
+    (λ c. rw (c .match .keys7) (search (arms, c .before .pre)))
+    (λ c. rw (c .match .keys8) (search (arms, c .before .pre)))
+    (λ c. rw (c .match .keys9) (search (arms, c .before .pre)))
+    (λ c. rw (c .match .keys10) (search (arms, c .before .pre)))
+    (λ c. rw (c .match .keys11) (search (arms, c .before .pre)))
+    (λ c. rw (c .match .keys12) (search (arms, c .before .pre)))
     (λ c. let a = c .before .args in sym (beyond (a .g) (a .p) (a .n) (a .q) (past (a .g) 12 (c .match .rest)))))
