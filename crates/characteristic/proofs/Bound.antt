@@ -17,12 +17,12 @@ module _ (P D : ℕ) (h : D ≤ P) where
   not-past-2 : (x y : ℕ) → ltb (200 * P + x + y) (200 * D) ≡ false
   not-past-2 x y = le-ltb (200 * P + x + y) (200 * D) (omega arith)
 
-pub starts-no : (v : Setting) (D R : ℕ) → D ≤ v .basic → starts v D R ≡ false
+pub starts-no : (v : Setting) (D R : ℕ) → D ≤ v .thresholds .basic → starts v D R ≡ false
 unfolding starts
-starts-no v D R h = simp (le-ltb (v .basic) D h, not-past (v .basic) D h, not-past-2 (v .basic) D h, and-false)
+starts-no v D R h = simp (le-ltb (v .thresholds .basic) D h, not-past (v .thresholds .basic) D h, not-past-2 (v .thresholds .basic) D h, and-false)
 
-pub counts-no : (v : Setting) (D : ℕ) (start blocked : Bool) → start ≡ false → D ≤ v .high → counts v D start blocked ≡ false
-counts-no v D start blocked e h = rw (e, le-ltb (v .high) D h)
+pub counts-no : (v : Setting) (D : ℕ) (start blocked : Bool) → start ≡ false → D ≤ v .thresholds .high → counts v D start blocked ≡ false
+counts-no v D start blocked e h = rw (e, le-ltb (v .thresholds .high) D h)
 
 pub quiet-bound : QuietBound
 unfolding QuietBound

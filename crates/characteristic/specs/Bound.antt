@@ -9,5 +9,5 @@ use Rattle.characteristic.specs.Characteristic.{starts, counts}
 -- whether or not it is blocked, that is, for any H2 and H5.
 unfoldable pub QuietBound : Type 0
 QuietBound =
-    (v : Setting) → 100 ≤ v .basic → 2500 ≤ v .high → (D : ℕ) → D ≤ 91 → (R : ℕ) (blocked : Bool) →
+    (v : Setting) → 100 ≤ v .thresholds .basic → 2500 ≤ v .thresholds .high → (D : ℕ) → D ≤ 91 → (R : ℕ) (blocked : Bool) →
     (starts v D R ≡ false) × (counts v D (starts v D R) blocked ≡ false)

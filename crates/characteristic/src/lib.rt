@@ -38,20 +38,20 @@ fn past(d: u32, p: u32, m: u16, x: u32, n: u16, y: u32) -> bool
 
 // The three sections of the characteristic.
 pub fn starts(v: Setting, c: Currents) -> bool
-    requires { ⌜ v .basic ≤ 2 * v .third ⌝ }
+    requires { ⌜ v .thresholds .basic ≤ 2 * v .thresholds .third ⌝ }
     ensures { λ b. ⌜ b ≡ startsOf v (c .d) (c .r) ⌝ }
 {
-    let p = wide(v.basic);
-    let q = 2 * wide(v.third);
+    let p = wide(v.thresholds.basic);
+    let q = 2 * wide(v.thresholds.third);
     let r = c.r;
     let d = c.d;
     if r <= p {
         return p < d;
     }
     if r <= q {
-        return past(d, p, v.slope1, r - p, 0, 0);
+        return past(d, p, v.thresholds.slope1, r - p, 0, 0);
     }
-    past(d, p, v.slope1, q - p, v.slope2, r - q)
+    past(d, p, v.thresholds.slope1, q - p, v.thresholds.slope2, r - q)
 }
 
 // Whether a harmonic is looked at, and above its percent of D.
@@ -74,8 +74,8 @@ fn or(a: bool, b: bool) -> bool
 pub fn harmonics(v: Setting, c: Currents) -> bool
     ensures { λ b. ⌜ b ≡ hasHarmonics v (c .d) (c .h2) (c .h5) ⌝ }
 {
-    let second = harmonic(v.flags % 2 == 1, v.second, c.d, c.h2);
-    let fifth = harmonic(v.flags / 2 % 2 == 1, v.fifth, c.d, c.h5);
+    let second = harmonic(v.flags % 2 == 1, v.thresholds.second, c.d, c.h2);
+    let fifth = harmonic(v.flags / 2 % 2 == 1, v.thresholds.fifth, c.d, c.h5);
     or(second, fifth)
 }
 
@@ -83,7 +83,7 @@ pub fn harmonics(v: Setting, c: Currents) -> bool
 pub fn counts(v: Setting, d: u32, start: bool, blocked: bool) -> bool
     ensures { λ r. ⌜ r ≡ countsOf v d start blocked ⌝ }
 {
-    let above = (v.high as u32) < d;
+    let above = (v.thresholds.high as u32) < d;
     if start {
         if blocked {
             return above;

@@ -46,7 +46,7 @@ module _ (v : Setting) (start : T (startable v)) (xs : List ℤ) (reach : InReac
   -- an end in use, as a system sees it
   pub scaled : (z : ℕ) → z < v .ends → (l : System) → Scaled (factor v z) (endOf v z .group) (seen l (phases xs z))
   scaled z h l =
-      let ok = startable-is start in
+      let ok = startable-is v start in
       let r = around (λ x w. (x .p) within 32000) (phases xs z) (phases xs z) (reach z h) l in
       record { factor = ok .factor-within z h; sampled = record { group = ok .limits .group z h; own = r .0; next = r .1; before = r .2 } }
 
@@ -55,7 +55,7 @@ module _ (v : Setting) (start : T (startable v)) (xs : List ℤ) (reach : InReac
   end-bound bank z h l =
       let e = endOf v z in
       let f = filtered e in
-      let some : 0 < below v = omega (arith, startable-is start .power .least) in
+      let some : 0 < below v = omega (arith, startable-is v start .power .least) in
       let near = around (λ x u. NearIdeal (e .group) f (above e) (below v) u (bank .common z) (x .p)) (phases xs z) (bank .w z) (bank .near z h) l in
       one-end (scaled z h l) f (above e) (below v) (seen l (bank .w z)) (bank .common z) some
       (nearest-near (pos (65536 * above e)) (below v) some)

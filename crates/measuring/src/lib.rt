@@ -155,7 +155,7 @@ fn common(on: bool, a: bool, b: bool, c: bool) -> bool
 
 // What is measured of a system, from its currents, whether it has harmonics, and whether all are blocked.
 fn system_reading(v: Setting, c: Currents, own: bool, any: bool) -> Reading
-    requires { ⌜ v .basic ≤ 2 * v .third ⌝ }
+    requires { ⌜ v .thresholds .basic ≤ 2 * v .thresholds .third ⌝ }
     ensures { λ r. ⌜ r ≡ record { d = c .d; r = c .r; h2 = c .h2; h5 = c .h5; start = startsOf v (c .d) (c .r); blocked = own || any } ⌝ }
 {
     Reading {

@@ -59,7 +59,7 @@ module _ (v : Setting) (xs : List ℤ) where
 
 module _ (r : Relay) (xs : List ℤ) (a : admissible r ≡ true) where
   pub factors-ready : Limits (r .setting)
-  factors-ready = startable-is (admitted r a 0) .limits
+  factors-ready = startable-is (r .setting) (admitted r a 0) .limits
 
   pub few-held : r .window .fill ≤ 12
   few-held = leb→le _ _ (admitted r a 1)
@@ -74,7 +74,7 @@ module _ (r : Relay) (xs : List ℤ) (a : admissible r ≡ true) where
 
     pub measure-ready : (w : Window) → w ≡ windowAfter r xs → length (w .values) ≡ 144 → Measurable (r .setting) (w .values)
     measure-ready w e long =
-        let s = startable-is (admitted r a 0) in
+        let s = startable-is (r .setting) (admitted r a 0) in
         record {
           ends = record { two = s .limits .two; four = s .limits .four };
           sections = omega (arith, s .basic .most, s .third .least);

@@ -21,6 +21,7 @@ use refusal::Refusal;
 use refusal::Verdict;
 use setting::End;
 use setting::Setting;
+use setting::Thresholds;
 
 // Setting values that are all zero, of which no relay can be started.
 pub fn blank() -> Setting
@@ -32,6 +33,15 @@ pub fn blank() -> Setting
         group: 0,
         filter: 0,
     };
+    let t = Thresholds {
+        basic: 0,
+        high: 0,
+        slope1: 0,
+        slope2: 0,
+        third: 0,
+        second: 0,
+        fifth: 0,
+    };
     Setting {
         ends: 0,
         flags: 0,
@@ -41,13 +51,7 @@ pub fn blank() -> Setting
         e1: e,
         e2: e,
         e3: e,
-        basic: 0,
-        high: 0,
-        slope1: 0,
-        slope2: 0,
-        third: 0,
-        second: 0,
-        fifth: 0,
+        thresholds: t,
     }
 }
 
@@ -168,7 +172,7 @@ impl Relay {
     pub fn start(v: Setting) -> Returned
         ensures { λ s. ⌜ Starts v s ⌝ }
     {
-        let verdict = setting::judging::verdict(v);
+        let verdict = setting::judging::start_verdict(v);
         Returned {
             verdict: verdict,
             relay: records::fresh(started_on(v, verdict)),

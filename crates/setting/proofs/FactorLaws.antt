@@ -1,15 +1,14 @@
 -- The factors: each is at least 0, and the four factors pass the limits' tests as those of the ends in use do. Tests of lists, by their places.
-use mathlib.Core.Path.{_≡_, refl, ap, _∙_}
-use mathlib.Core.Bool.{Bool, true, false, cond, _&&_}
+use mathlib.Core.Path.{_≡_, refl, sym, ap}
+use mathlib.Core.Bool.{Bool, true, false, cond, not, _&&_}
 use mathlib.Core.List.{List, [], _∷_}
 use Prim.Native.Nat.{ℕ, zero, suc, _+_, _*_, _≤_, _<_}
-use native.Mathlib.Numerals.{add-one}
+use native.Mathlib.Nat.{zero-add}
 use native.Mathlib.Omega.{arith}
 use lib.Dec.{T, ltb}
 use lib.ListN.{length, getD, drop}
-use lib.Seq.{drop-cons}
 use lib.IntN.{ℤ, pos, negsuc}
-use lib.Signed.{_≤ℤ_}
+use lib.Signed.{leZ, _≤ℤ_}
 use borrow.Author.Tests.{lt-ltb}
 use Rattle.integer.specs.Nearest.{nearest}
 use Rattle.integer.specs.Lists.{upTo}
@@ -17,9 +16,10 @@ use Rattle.integer.specs.Tests.{each}
 use Rattle.integer.proofs.Reading.{ints, _⇒_}
 use Rattle.integer.proofs.Laws.{cancel-<}
 use Rattle.integer.proofs.HalfUnit.{nearest-near}
+use Rattle.integer.proofs.Places.{drop-next}
 use Rattle.integer.proofs.TestLaws.{split}
 use Rattle.setting.specs.declared.Setting.{Setting}
-use Rattle.setting.specs.Values.{factor, factors, count}
+use Rattle.setting.specs.Values.{factor, factors, factorHigh, factorsLow, count}
 use Rattle.setting.specs.Limits.{Limits, fourFactors}
 
 -- ---- tests of a list by its places
@@ -30,14 +30,29 @@ each-upTo t zero f h k l = absurd (omega arith)
 each-upTo t (suc n) f h zero l = split (t (f zero)) (each t (upTo n (λ i. f (suc i)))) h .0
 each-upTo t (suc n) f h (suc k) l = each-upTo t n (λ i. f (suc i)) (split (t (f zero)) (each t (upTo n (λ i. f (suc i)))) h .1) k (omega arith)
 
--- ---- tests of what is left of a list, from a place on
+-- ---- how many factors are at least so large
 
-module _ {A : Type 0} (t : A → Bool) (l : List A) (i : ℕ) (d : A) (h : i < length l) where
-  pub each-next : each t (drop i l) ≡ (t (getD l i d) && each t (drop (i + 1) l))
-  each-next = ap (each t) (drop-cons l i d h) ∙ rw add-one
+-- from a place on
+pub count-next :
+    {A : Type 0} (t : A → Bool) (l : List A) (i : ℕ) (d : A) → i < length l →
+    count t (drop i l) ≡ cond (t (getD l i d)) 1 0 + count t (drop (i + 1) l)
+count-next t l i d h = ap (count t) (drop-next l i d h)
 
-  pub count-next : count t (drop i l) ≡ cond (t (getD l i d)) 1 0 + count t (drop (i + 1) l)
-  count-next = ap (count t) (drop-cons l i d h) ∙ rw add-one
+above-not : (n : ℕ) (x : ℤ) → leZ x (pos n) ≡ not (leZ (pos (n + 1)) x)
+above-not n x = by (leZ (pos (n + 1)) x) refl
+  where
+    by : (b : Bool) → leZ (pos (n + 1)) x ≡ b → leZ x (pos n) ≡ not b
+    by true e = e ⇒ simp ints (omega arith)
+    by false e = e ⇒ simp ints (omega arith)
+
+-- some are above n where not each is at most n
+count-above : (n : ℕ) (l : List ℤ) → ltb 0 (count (leZ (pos (n + 1))) l) ≡ not (each (λ x. leZ x (pos n)) l)
+count-above n [] = refl
+count-above n (x ∷ l) = rw (above-not n x) (by (leZ (pos (n + 1)) x) (count (leZ (pos (n + 1))) l) (each (λ y. leZ y (pos n)) l) (count-above n l))
+  where
+    by : (b : Bool) (m : ℕ) (r : Bool) → ltb 0 m ≡ not r → ltb 0 (cond b 1 0 + m) ≡ not (not b && r)
+    by true m r e = lt-ltb 0 (1 + m) (omega arith)
+    by false m r e = rw (zero-add m) e
 
 -- ---- a quotient of two numbers, to the nearest, is at least 0
 
@@ -52,35 +67,22 @@ factor-nonneg v z h = nearest-nonneg _ _ (omega arith)
 
 -- ---- the four factors, of which those past the ends in use are 0, against the factors of the ends in use
 
--- a statement of two to four ends, by its three cases
-pub two-to-four : (P : ℕ → Type 0) → P 2 → P 3 → P 4 → (n : ℕ) → 2 ≤ n → n ≤ 4 → P n
-two-to-four P p q r zero l m = absurd (omega arith)
-two-to-four P p q r (suc zero) l m = absurd (omega arith)
-two-to-four P p q r (suc (suc zero)) l m = p
-two-to-four P p q r (suc (suc (suc zero))) l m = q
-two-to-four P p q r (suc (suc (suc (suc zero)))) l m = r
-two-to-four P p q r (suc (suc (suc (suc (suc n))))) l m = absurd (omega arith)
+-- by a test that 0 does not pass
+module _ (t : ℤ → Bool) (o : t (pos 0) ≡ false) (f : ℕ → ℤ) where
+  four-count : (n : ℕ) → n ≤ 4 → count t (upTo 4 (λ z. cond (ltb z n) (f z) (pos 0))) ≡ count t (upTo n f)
+  unfolding upTo
+  four-count zero l = rw o
+  four-count (suc zero) l = rw o
+  four-count (suc (suc zero)) l = rw o
+  four-count (suc (suc (suc zero))) l = rw o
+  four-count (suc (suc (suc (suc zero)))) l = refl
+  four-count (suc (suc (suc (suc (suc n))))) l = absurd (omega arith)
 
-module _ (f : ℕ → ℤ) where
-  abbrev four : ℕ → List ℤ
-  four n = upTo 4 (λ z. cond (ltb z n) (f z) (pos 0))
+module _ {v : Setting} {ks : List ℤ} (h : Limits v) (e : ks ≡ fourFactors v) where
+  pub high-is : {n : ℕ} → n ≡ count (leZ (pos 1048577)) ks → factorHigh v ≡ ltb 0 n
+  unfolding factorHigh fourFactors
+  high-is c = rw (c, e, four-count (leZ (pos 1048577)) refl (factor v) (v .ends) (h .four)) (sym (count-above 1048576 (factors v)))
 
-module _ {v : Setting} (h : Limits v) (t : ℤ → Bool) where
-  -- of a test that 0 passes
-  pub four-each : t (pos 0) ≡ true → each t (fourFactors v) ≡ each t (factors v)
-  unfolding fourFactors upTo
-  four-each e =
-      two-to-four (λ n. each t (four (factor v) n) ≡ each t (upTo n (factor v))) (rw e) (rw e) refl (v .ends) (h .two) (h .four)
-
-  -- of a test that 0 does not pass
-  pub four-count : t (pos 0) ≡ false → count t (fourFactors v) ≡ count t (factors v)
-  unfolding fourFactors upTo
-  four-count e =
-      two-to-four (λ n. count t (four (factor v) n) ≡ count t (upTo n (factor v))) (rw e) (rw e) refl (v .ends) (h .two) (h .four)
-
--- the four factors, one by one
-pub four-are :
-    {v : Setting} {k0 k1 k2 k3 : ℤ} → Limits v → k0 ≡ factor v 0 → k1 ≡ factor v 1 → k2 ≡ cond (ltb 2 (v .ends)) (factor v 2) (pos 0) →
-    k3 ≡ cond (ltb 3 (v .ends)) (factor v 3) (pos 0) → (k0 ∷ k1 ∷ k2 ∷ k3 ∷ []) ≡ fourFactors v
-unfolding fourFactors upTo
-four-are {v} h a b c d = rw (a, b, c, d, lt-ltb 0 (v .ends) (omega (arith, h .two)), lt-ltb 1 (v .ends) (h .two))
+  pub low-is : {n : ℕ} → n ≡ count (leZ (pos 32768)) ks → factorsLow v ≡ ltb n 2
+  unfolding factorsLow fourFactors
+  low-is c = rw (c, e, four-count (leZ (pos 32768)) refl (factor v) (v .ends) (h .four))

@@ -2,4 +2,3 @@
 pub mod FieldLaws
 pub mod FactorLaws
 pub mod LimitLaws
-pub mod VerdictLaws

@@ -24,5 +24,8 @@ pub record Limits (v : Setting) : Type 0 where
   pub group : (z : ℕ) → z < v .ends → endOf v z .group < 12
 
 -- K of each of the four ends, 0 at an end that is not in use
+abbrev pub factorOr0 : Setting → ℕ → ℤ
+factorOr0 v z = cond (ltb z (v .ends)) (factor v z) (pos 0)
+
 unfoldable pub fourFactors : Setting → List ℤ
-fourFactors v = upTo 4 (λ z. cond (ltb z (v .ends)) (factor v z) (pos 0))
+fourFactors v = upTo 4 (factorOr0 v)

@@ -1,16 +1,15 @@
 // The factors K that match an end's currents to the reference, and their limits.
 
 ghost use mathlib.Core.Path.{_≡_};
-ghost use mathlib.Core.Bool.{not};
-ghost use Prim.Native.Nat.{_*_};
+ghost use Prim.Native.Nat.{_*_, _<_};
 ghost use lib.IntN.{pos};
 ghost use lib.Signed.{leZ};
 ghost use Rattle.integer.specs.Nearest.{nearest as nearestOf};
-ghost use Rattle.integer.specs.Tests.{each};
 ghost use Rattle.setting.specs.Values.{above, count};
-ghost use Rattle.setting.specs.Limits.{Rated, Limits, fourFactors};
+ghost use Rattle.setting.specs.Limits.{Rated, Limits, factorOr0, fourFactors};
 use crate::End;
 use crate::Setting;
+use crate::rules;
 
 // K of an end: 65,536 times 1351·V·I / (780·1000·S), to the nearest.
 pub fn factor(e: End, power: u32) -> i64
@@ -21,44 +20,38 @@ pub fn factor(e: End, power: u32) -> i64
     integer::nearest(n, 780000 * (power as u64))
 }
 
+// K of the end z where it is in use, else 0.
+fn factor_at(v: Setting, z: u8) -> i64
+    requires { ⌜ Limits v × (z < 4) ⌝ }
+    ensures { λ r. ⌜ r ≡ factorOr0 v z ⌝ }
+{
+    if z < v.ends {
+        return factor(rules::end_of(v, z), v.power);
+    }
+    0
+}
+
 // K of each end in use, and 0 at the others.
 pub fn factors(v: Setting) -> [i64; 4]
     requires { ⌜ Limits v ⌝ }
     ensures { λ r. ⌜ r ≡ fourFactors v ⌝ }
 {
-    let k0 = factor(v.e0, v.power);
-    let k1 = factor(v.e1, v.power);
-    let mut k = [k0, k1, 0, 0];
-    if 2 < v.ends {
-        k[2] = factor(v.e2, v.power);
-    }
-    if 3 < v.ends {
-        k[3] = factor(v.e3, v.power);
-    }
-    k
+    [
+        factor_at(v, 0),
+        factor_at(v, 1),
+        factor_at(v, 2),
+        factor_at(v, 3),
+    ]
 }
 
-// Whether a factor is above 16, and how many are at least 0.5.
-pub fn any_high(k: [i64; 4]) -> bool
-    ensures { λ r. ⌜ r ≡ not (each (λ x. leZ x (pos 1048576)) k) ⌝ }
-{
-    let mut z: usize = 0;
-    while z < 4 {
-        if 1048576 < k[z] {
-            return true;
-        }
-        z += 1;
-    }
-    false
-}
-
-pub fn how_many(k: [i64; 4]) -> u8
-    ensures { λ r. ⌜ r ≡ count (leZ (pos 32768)) k ⌝ }
+// How many factors are at least so large.
+pub fn how_many(k: [i64; 4], least: u32) -> u8
+    ensures { λ r. ⌜ r ≡ count (leZ (pos least)) k ⌝ }
 {
     let mut n: u8 = 0;
     let mut z: usize = 0;
     while z < 4 {
-        if 32768 <= k[z] {
+        if least as i64 <= k[z] {
             n += 1;
         }
         z += 1;

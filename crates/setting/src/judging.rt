@@ -1,9 +1,9 @@
-// The verdict on setting values: whether a relay can be started on them, or the refusal, 4 to 7.
+// The verdict on setting values: whether a block may hold them and whether a relay can be started on them, or the refusal, 4 to 7.
 
 ghost use mathlib.Core.Path.{_≡_};
 ghost use Rattle.setting.specs.Values.{startable};
-ghost use Rattle.setting.specs.Calls.{Judges};
-ghost use Rattle.setting.specs.Search.{verdictOf};
+ghost use Rattle.setting.specs.Calls.{Judges, JudgesStart};
+ghost use Rattle.setting.specs.Search.{JudgesBeside};
 use crate::Fault;
 use crate::Setting;
 use crate::factors;
@@ -13,7 +13,7 @@ use refusal::Verdict;
 
 // Refusals 4 to 7 of setting values, with a fault found beside those of the fields.
 pub fn verdict_beside(v: Setting, beside: Fault) -> Verdict
-    ensures { λ r. ⌜ r ≡ verdictOf beside v ⌝ }
+    ensures { λ r. ⌜ JudgesBeside v beside r ⌝ }
 {
     if v.ends < 2 {
         return Verdict::Refused(Refusal::Ends);
@@ -26,27 +26,34 @@ pub fn verdict_beside(v: Setting, beside: Fault) -> Verdict
         return Verdict::Refused(Refusal::Field(x));
     }
     let k = factors::factors(v);
-    if factors::any_high(k) {
+    if 0 < factors::how_many(k, 1048577) {
         return Verdict::Refused(Refusal::FactorHigh);
     }
-    if factors::how_many(k) < 2 {
+    if factors::how_many(k, 32768) < 2 {
         return Verdict::Refused(Refusal::FactorsLow);
     }
     Verdict::Accepted
 }
 
-// Whether a relay can be started on setting values, or the refusal, 4 to 7.
+// Whether a block may hold setting values, or the refusal, 4 to 7.
 pub fn verdict(v: Setting) -> Verdict
     ensures { λ r. ⌜ Judges v r ⌝ }
 {
     verdict_beside(v, Fault::Nowhere)
 }
 
+// Whether a relay can be started on setting values, or the refusal, 4 to 7.
+pub fn start_verdict(v: Setting) -> Verdict
+    ensures { λ r. ⌜ JudgesStart v r ⌝ }
+{
+    verdict(v)
+}
+
 // Whether a relay can be started on setting values.
 pub fn sound(v: Setting) -> bool
     ensures { λ ok. ⌜ ok ≡ startable v ⌝ }
 {
-    match verdict(v) {
+    match start_verdict(v) {
         Verdict::Accepted => true,
         Verdict::Refused(_) => false,
     }

@@ -26,16 +26,23 @@ pub struct Setting {
     pub e1: End,
     pub e2: End,
     pub e3: End,
-    // P, H and Q in thousandths of reference current; m1 and m2 in percent.
+    pub thresholds: Thresholds,
+}
+
+// The thresholds: P, H and Q in thousandths of reference current; m1 and m2 in percent; the percents of second and fifth harmonic that block.
+pub struct Thresholds {
     pub basic: u16,
     pub high: u16,
     pub slope1: u16,
     pub slope2: u16,
     pub third: u16,
-    // The percents of second and fifth harmonic that block.
     pub second: u16,
     pub fifth: u16,
 }
+
+// A field of the block: the offset of its first byte, whether it is in use, the least and the most that it may then be, and its value. A field that is
+// not in use is zero.
+pub struct Field(pub u16, pub bool, pub u32, pub u32, pub u32);
 
 // The offset of a field outside its rule, if there is one.
 pub enum Fault {

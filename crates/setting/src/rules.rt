@@ -1,24 +1,13 @@
 // The rules of the fields: the first field outside its rule, in block order.
 
 ghost use mathlib.Core.Path.{_≡_};
-ghost use mathlib.Core.List.{[], _∷_};
 ghost use Prim.Native.Nat.{_<_};
-ghost use lib.Dec.{eqb};
-ghost use Rattle.setting.specs.Values.{endOf, field, between, headFields, usedFields, unusedFields, endFields, tailFields, fields};
-ghost use Rattle.setting.specs.Search.{firstWrong, orElse, sooner as soonerOf};
+ghost use Rattle.setting.specs.Values.{endOf, right as rightOf, fields as fieldsOf};
+ghost use Rattle.setting.specs.Search.{firstWrong, sooner as soonerOf};
 use crate::End;
 use crate::Fault;
+use crate::Field;
 use crate::Setting;
-
-// The first of two faults.
-pub fn or_else(a: Fault, b: Fault) -> Fault
-    ensures { λ r. ⌜ r ≡ orElse a b ⌝ }
-{
-    match a {
-        Fault::Nowhere => b,
-        Fault::At(_) => a,
-    }
-}
 
 // The fault with the lower offset.
 pub fn sooner(a: Fault, b: Fault) -> Fault
@@ -31,62 +20,6 @@ pub fn sooner(a: Fault, b: Fault) -> Fault
         return a;
     };
     if x <= y { a } else { b }
-}
-
-// The fault of one number that may be low to high, and of one that must be zero.
-fn range_fault(at: u16, low: u32, high: u32, x: u32) -> Fault
-    ensures { λ r. ⌜ r ≡ firstWrong (field at (between low high x) ∷ []) ⌝ }
-{
-    if x < low {
-        return Fault::At(at);
-    }
-    if high < x {
-        return Fault::At(at);
-    }
-    Fault::Nowhere
-}
-
-pub fn zero_fault(at: u16, x: u32) -> Fault
-    ensures { λ r. ⌜ r ≡ firstWrong (field at (eqb x 0) ∷ []) ⌝ }
-{
-    if x != 0 {
-        return Fault::At(at);
-    }
-    Fault::Nowhere
-}
-
-fn head_fault(v: Setting) -> Fault
-    ensures { λ r. ⌜ r ≡ firstWrong (headFields v) ⌝ }
-{
-    let flags = range_fault(5, 0, 7, v.flags as u32);
-    let confirm = range_fault(6, 1, 24, v.confirm as u32);
-    let power = range_fault(8, 1, 50000, v.power);
-    or_else(flags, or_else(confirm, power))
-}
-
-fn used_fault(z: u8, e: End) -> Fault
-    requires { ⌜ z < 4 ⌝ }
-    ensures { λ r. ⌜ r ≡ firstWrong (usedFields z e) ⌝ }
-{
-    let at = 12 + 12 * (z as u16);
-    let groups: u32 = if z == 0 { 0 } else { 11 };
-    let voltage = range_fault(at, 1, 15000, e.voltage);
-    let current = range_fault(at + 4, 1, 50000, e.current);
-    let group = range_fault(at + 8, 0, groups, e.group as u32);
-    let filter = range_fault(at + 9, 0, 1, e.filter as u32);
-    or_else(voltage, or_else(current, or_else(group, filter)))
-}
-
-fn unused_fault(z: u8, e: End) -> Fault
-    requires { ⌜ z < 4 ⌝ }
-    ensures { λ r. ⌜ r ≡ firstWrong (unusedFields z e) ⌝ }
-{
-    let at = 12 + 12 * (z as u16);
-    let voltage = zero_fault(at, e.voltage);
-    let current = zero_fault(at + 4, e.current);
-    let group = zero_fault(at + 8, e.group as u32);
-    let filter = zero_fault(at + 9, e.filter as u32);
-    or_else(voltage, or_else(current, or_else(group, filter)))
 }
 
 // The end z.
@@ -102,38 +35,71 @@ pub fn end_of(v: Setting, z: u8) -> End
     }
 }
 
-fn end_fault(v: Setting, z: u8) -> Fault
-    requires { ⌜ z < 4 ⌝ }
-    ensures { λ r. ⌜ r ≡ firstWrong (endFields v z) ⌝ }
+// The fields of setting values in block order.
+fn fields(v: Setting) -> [Field; 26]
+    ensures { λ r. ⌜ r ≡ fieldsOf v ⌝ }
 {
-    let e = end_of(v, z);
-    if z < v.ends {
-        return used_fault(z, e);
+    let u0 = 0 < v.ends;
+    let u1 = 1 < v.ends;
+    let u2 = 2 < v.ends;
+    let u3 = 3 < v.ends;
+    let a = v.e0;
+    let b = v.e1;
+    let c = v.e2;
+    let d = v.e3;
+    let t = v.thresholds;
+    [
+        Field(5, true, 0, 7, v.flags as u32),
+        Field(6, true, 1, 24, v.confirm as u32),
+        Field(8, true, 1, 50000, v.power),
+        Field(12, u0, 1, 15000, a.voltage),
+        Field(16, u0, 1, 50000, a.current),
+        Field(20, u0, 0, 0, a.group as u32),
+        Field(21, u0, 0, 1, a.filter as u32),
+        Field(24, u1, 1, 15000, b.voltage),
+        Field(28, u1, 1, 50000, b.current),
+        Field(32, u1, 0, 11, b.group as u32),
+        Field(33, u1, 0, 1, b.filter as u32),
+        Field(36, u2, 1, 15000, c.voltage),
+        Field(40, u2, 1, 50000, c.current),
+        Field(44, u2, 0, 11, c.group as u32),
+        Field(45, u2, 0, 1, c.filter as u32),
+        Field(48, u3, 1, 15000, d.voltage),
+        Field(52, u3, 1, 50000, d.current),
+        Field(56, u3, 0, 11, d.group as u32),
+        Field(57, u3, 0, 1, d.filter as u32),
+        Field(60, true, 100, 2500, t.basic as u32),
+        Field(62, true, 2500, 30000, t.high as u32),
+        Field(64, true, 10, 150, t.slope1 as u32),
+        Field(66, true, 10, 150, t.slope2 as u32),
+        Field(68, true, 1500, 10000, t.third as u32),
+        Field(70, true, 10, 50, t.second as u32),
+        Field(72, true, 10, 80, t.fifth as u32),
+    ]
+}
+
+// Whether a field is within its rule.
+fn right(f: Field) -> bool
+    ensures { λ r. ⌜ r ≡ rightOf f ⌝ }
+{
+    if f.1 {
+        return f.2 <= f.4 && f.4 <= f.3;
     }
-    unused_fault(z, e)
+    f.4 == 0
 }
 
-fn tail_fault(v: Setting) -> Fault
-    ensures { λ r. ⌜ r ≡ firstWrong (tailFields v) ⌝ }
-{
-    let basic = range_fault(60, 100, 2500, v.basic as u32);
-    let high = range_fault(62, 2500, 30000, v.high as u32);
-    let slope1 = range_fault(64, 10, 150, v.slope1 as u32);
-    let slope2 = range_fault(66, 10, 150, v.slope2 as u32);
-    let third = range_fault(68, 1500, 10000, v.third as u32);
-    let second = range_fault(70, 10, 50, v.second as u32);
-    let fifth = range_fault(72, 10, 80, v.fifth as u32);
-    let harmonics = or_else(second, fifth);
-    let slopes = or_else(slope1, or_else(slope2, or_else(third, harmonics)));
-    or_else(basic, or_else(high, slopes))
-}
-
-// The first field of setting values outside its rule.
+// The first field outside its rule.
 pub fn fault(v: Setting) -> Fault
-    ensures { λ r. ⌜ r ≡ firstWrong (fields v) ⌝ }
+    ensures { λ r. ⌜ r ≡ firstWrong (fieldsOf v) ⌝ }
 {
-    let ends01 = or_else(end_fault(v, 0), end_fault(v, 1));
-    let ends23 = or_else(end_fault(v, 2), end_fault(v, 3));
-    let ends = or_else(ends01, ends23);
-    or_else(head_fault(v), or_else(ends, tail_fault(v)))
+    let fs = fields(v);
+    let mut k: usize = 0;
+    while k < 26 {
+        let f = fs[k];
+        if !right(f) {
+            return Fault::At(f.0);
+        }
+        k += 1;
+    }
+    Fault::Nowhere
 }

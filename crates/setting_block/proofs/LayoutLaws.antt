@@ -1,5 +1,5 @@
--- The layout, both ways. Bytes with the mark and zero bytes are the header of the values that they hold, and then zeros: each number's bytes are those it was read from.
--- The values that a header holds are those it was made of: each number fits its bytes.
+-- The layout, both ways. Bytes with the mark and zero bytes are the header of the values that they hold, and then zeros: each number's bytes are those
+-- it was read from. The values that a header holds are those it was made of: each number fits its bytes.
 use mathlib.Core.Path.{_≡_, refl, sym, ap, _∙_}
 use mathlib.Core.Bool.{Bool, true, false, not, _&&_}
 use mathlib.Core.List.{List, [], _∷_, _++_, map}
@@ -18,8 +18,8 @@ use Rattle.integer.proofs.Places.{getD-upTo, take-upTo, upTo-add, upTo-same, up
 use Rattle.block.proofs.ByteLaws.{u16-bytes, u32-bytes, bytes-u16, bytes-u32}
 use Rattle.setting.specs.declared.End.{End}
 use Rattle.setting.specs.declared.Setting.{Setting}
-use Rattle.setting.specs.Values.{endOf, allRight}
-use Rattle.setting.proofs.LimitLaws.{Startable}
+use Rattle.setting.specs.Values.{right, allRight}
+use Rattle.setting.proofs.LimitLaws.{Bounded, Storable}
 use Rattle.setting_block.specs.Layout.{endAt, settingAt, marked, spareOffsets, spare, spares, endBytes, header}
 
 -- ---- the zero bytes, as facts
@@ -35,7 +35,7 @@ each-map t f (a ∷ l) = ap (λ (b : Bool). t (f a) && b) (each-map t f l)
 module _ (s : List ℕ) where
   spares-each : allRight (spares s) ≡ each (λ at. eqb (getD s at 0) 0) spareOffsets
   unfolding spares
-  spares-each = each-map (λ f. f .right) (spare s) spareOffsets
+  spares-each = each-map right (spare s) spareOffsets
 
   pub spares-zero : T (allRight (spares s)) → Each (Zero s) spareOffsets
   spares-zero h = test-each (λ at. eqb (getD s at 0) 0) (λ at. eqb→eq (getD s at 0) 0) spareOffsets (rw spares-each at h)
@@ -66,7 +66,9 @@ mark-is s h z =
     let p = split (eqb (getD s 0 0) 0x54) _ h in
     let q = split (eqb (getD s 1 0) 0x44) _ (p .1) in
     let r = split (eqb (getD s 2 0) 0x50) (eqb (getD s 3 0) 0x31) (q .1) in
-    record { is = rw (eqb→eq (getD s 0 0) 0x54 (p .0), eqb→eq (getD s 1 0) 0x44 (q .0), eqb→eq (getD s 2 0) 0x50 (r .0), eqb→eq (getD s 3 0) 0x31 (r .1), z) }
+    let first : getD s 0 0 ≡ 0x54 = eqb→eq (getD s 0 0) 0x54 (p .0) in
+    let second : getD s 1 0 ≡ 0x44 = eqb→eq (getD s 1 0) 0x44 (q .0) in
+    record { is = rw (first, second, eqb→eq (getD s 2 0) 0x50 (r .0), eqb→eq (getD s 3 0) 0x31 (r .1), z) }
 
 module _ (s : List ℕ) (byte : (k : ℕ) → getD s k 0 < 256) where
   two-is : (at : ℕ) → Part s at 2 (bytes16 (u16At s at))
@@ -116,19 +118,8 @@ module _ (s : List ℕ) (byte : (k : ℕ) → getD s k 0 < 256) where
 -- ---- from values to bytes and back
 
 -- the voltage and the current of an end fit four bytes
-record Fits (e : End) : Type 0 where
-  voltage : e .voltage < 4294967296
-  current : e .current < 4294967296
-
-end-fits : {v : Setting} → Startable v → (z : ℕ) → z < 4 → Fits (endOf v z)
-end-fits {v} h z l = by (ltb z (v .ends)) (ltb→lt z (v .ends)) (nltb→le z (v .ends))
-  where
-    by : (b : Bool) → (T b → z < v .ends) → (T (not b) → v .ends ≤ z) → Fits (endOf v z)
-    by true y n = let u = h .used z (y tt) in record { voltage = omega arith; current = omega arith }
-    by false y n = let u = h .unused z (n tt) l in record { voltage = omega arith; current = omega arith }
-
-end-back : (e : End) → Fits e → endAt (endBytes e) 0 ≡ e
-end-back e f = rw (u32-bytes (e .voltage) [] (f .voltage), u32-bytes (e .current) [] (f .current))
+end-back : (e : End) → Bounded e → endAt (endBytes e) 0 ≡ e
+end-back e b = rw (u32-bytes (e .voltage) [] (omega (arith, b .voltage)), u32-bytes (e .current) [] (omega (arith, b .current)))
 
 pub header-length : (v : Setting) → length (header v) ≡ 74
 unfolding header
@@ -140,7 +131,7 @@ module _ (v : Setting) (rest : List ℕ) where
   unfolding header
   header-marked = refl
 
-  pub setting-back : Startable v → settingAt (header v ++ rest) ≡ v
+  pub setting-back : Storable v → settingAt (header v ++ rest) ≡ v
   unfolding header settingAt
   setting-back h =
       λ i.
@@ -149,17 +140,20 @@ module _ (v : Setting) (rest : List ℕ) where
         flags = v .flags;
         confirm = v .confirm;
         power = u32-bytes (v .power) [] (omega (arith, h .power .most)) i;
-        e0 = end-back (v .e0) (end-fits h 0 (omega arith)) i;
-        e1 = end-back (v .e1) (end-fits h 1 (omega arith)) i;
-        e2 = end-back (v .e2) (end-fits h 2 (omega arith)) i;
-        e3 = end-back (v .e3) (end-fits h 3 (omega arith)) i;
-        basic = u16-bytes (v .basic) [] (omega (arith, h .basic .most)) i;
-        high = u16-bytes (v .high) [] (omega (arith, h .high .most)) i;
-        slope1 = u16-bytes (v .slope1) [] (omega (arith, h .slope1 .most)) i;
-        slope2 = u16-bytes (v .slope2) [] (omega (arith, h .slope2 .most)) i;
-        third = u16-bytes (v .third) [] (omega (arith, h .third .most)) i;
-        second = u16-bytes (v .second) [] (omega (arith, h .second .most)) i;
-        fifth = u16-bytes (v .fifth) [] (omega (arith, h .fifth .most)) i;
+        e0 = end-back (v .e0) (h .bounded 0 (omega arith)) i;
+        e1 = end-back (v .e1) (h .bounded 1 (omega arith)) i;
+        e2 = end-back (v .e2) (h .bounded 2 (omega arith)) i;
+        e3 = end-back (v .e3) (h .bounded 3 (omega arith)) i;
+        thresholds =
+            record {
+              basic = u16-bytes (v .thresholds .basic) [] (omega (arith, h .basic .most)) i;
+              high = u16-bytes (v .thresholds .high) [] (omega (arith, h .high .most)) i;
+              slope1 = u16-bytes (v .thresholds .slope1) [] (omega (arith, h .slope1 .most)) i;
+              slope2 = u16-bytes (v .thresholds .slope2) [] (omega (arith, h .slope2 .most)) i;
+              third = u16-bytes (v .thresholds .third) [] (omega (arith, h .third .most)) i;
+              second = u16-bytes (v .thresholds .second) [] (omega (arith, h .second .most)) i;
+              fifth = u16-bytes (v .thresholds .fifth) [] (omega (arith, h .fifth .most)) i;
+            };
       }
 
   -- and with zeros between

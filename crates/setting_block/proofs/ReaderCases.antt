@@ -11,10 +11,9 @@ use Rattle.refusal.specs.Refusals as R
 use Rattle.refusal.proofs.Stops.{Passed, Stops, stops-declines, past-first, firstOf-values}
 use Rattle.setting.specs.declared.Setting.{Setting}
 use Rattle.setting.specs.Values.{valueRows}
-use Rattle.setting.specs.Search.{firstWrong, verdictOf}
-use Rattle.setting.proofs.VerdictLaws.{Answers, verdict-answers}
+use Rattle.setting.specs.Calls.{Judged}
 use Rattle.setting_block.specs.declared.ReadSetting.{ReadSetting}
-use Rattle.setting_block.specs.Layout.{settingAt, spares}
+use Rattle.setting_block.specs.Layout.{settingAt}
 use Rattle.setting_block.specs.Calls.{blockFields, readRows, outcomeOf, offsets, Reads}
 
 -- the answer by the verdict on the values
@@ -35,12 +34,12 @@ module _ (s : List ℕ) where
   pub refused : (q : Refusal) → offsetsOf q ≡ [] → Stops (readRows s) (numberOf q) → Reads s (ReadSetting.Refused q)
   refused q o p = record { outcome = sym (stops-declines p (settingAt s)); offset = rw o none }
 
-  -- the fault beside those of the fields is the first of the zero bytes
-  pub judged : Each Passed (take 3 (readRows s)) → {r : Verdict} → r ≡ verdictOf (firstWrong (spares s)) (settingAt s) → Reads s (answer (settingAt s) r)
+  -- what the verdict on the values and the zero bytes says
+  pub judged : Each Passed (take 3 (readRows s)) → {r : Verdict} → Judged (valueRows (blockFields s) (settingAt s)) (blockFields s) r
+      → Reads s (answer (settingAt s) r)
   unfolding readRows
-  judged p {r} e =
+  judged p {r} a =
       let v = settingAt s in
-      let a : Answers v (blockFields s) r = rw e (verdict-answers v (spares s)) in
       record {
         outcome =
             answer-outcome v r

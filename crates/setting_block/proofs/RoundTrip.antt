@@ -1,6 +1,6 @@
--- Reading and writing undo each other. The reader accepts a block that has its length, its check and its mark, whose zero bytes are zero, and that holds startable values:
--- the block of these values is then its first 510 bytes with their check, the block itself.
--- The writer accepts startable values: their block has all of that, and holds these values.
+-- Reading and writing undo each other. The reader accepts a block that has its length, its check and its mark, whose zero bytes are zero, and that holds
+-- storable values: the block of these values is then its first 510 bytes with their check, the block itself.
+-- The writer accepts storable values: their block has all of that, and holds these values.
 use mathlib.Core.Path.{_≡_, refl, sym, ap, _∙_}
 use mathlib.Core.Bool.{Bool, true, false, not, _&&_, Bool·not-not}
 use mathlib.Core.List.{List, [], _∷_, _++_, append-assoc}
@@ -14,12 +14,13 @@ use Rattle.integer.specs.Tests.{hold}
 use Rattle.integer.proofs.TestLaws.{split, pair, is-true, hold-at, each-++}
 use Rattle.refusal.specs.Refusals.{_when_, gives, done, noneApplies}
 use Rattle.block.specs.Bytes.{areBytes}
-use Rattle.block.specs.Block.{sumsOf, checked, sealed, placed}
+use Rattle.block.specs.Block.{sumsOf, checked, sealed}
 use Rattle.block.proofs.ByteLaws.{byte-at, checked-is, sealed-checked}
+use Rattle.setting.specs.declared.Field.{Field}
 use Rattle.setting.specs.declared.Setting.{Setting}
-use Rattle.setting.specs.Values.{FieldRule, between, fields, allRight, factorHigh, factorsLow, valueRows, startRows, startable}
+use Rattle.setting.specs.Values.{right, between, fields, allRight, factorHigh, factorsLow, valueRows, storeRows, storable}
 use Rattle.refusal.proofs.Stops.{none-gives, gives-none, gives-same}
-use Rattle.setting.proofs.LimitLaws.{startable-is}
+use Rattle.setting.proofs.LimitLaws.{storable-is}
 use Rattle.setting_block.specs.Layout.{settingAt, marked, spares, header, blockOf}
 use Rattle.setting_block.specs.Calls.{readRows, writeRows, writeOf, writeLeaves}
 use Rattle.setting_block.specs.RoundTrip.{ReadThenWrite, WriteThenRead}
@@ -28,9 +29,11 @@ use Rattle.setting_block.proofs.LayoutLaws.{spares-zero, zero-spares, b
 -- ---- when the reader accepts, and when the writer does
 
 -- with fields gs beside those of the values
-none-beside : (v : Setting) (gs : List FieldRule) → noneApplies (valueRows (fields v ++ gs) v) ≡ hold (startable v ∷ allRight gs ∷ [])
+none-beside : (v : Setting) (gs : List Field) → noneApplies (valueRows (fields v ++ gs) v) ≡ hold (storable v ∷ allRight gs ∷ [])
 unfolding valueRows
-none-beside v gs = rw (each-++ (λ f. f .right) (fields v) gs) (by (between 2 4 (v .ends)) (allRight (fields v)) (allRight gs) (not (factorHigh v) && (not (factorsLow v) && true)))
+none-beside v gs =
+    rw (each-++ right (fields v) gs)
+    (by (between 2 4 (v .ends)) (allRight (fields v)) (allRight gs) (not (factorHigh v) && (not (factorsLow v) && true)))
   where
     by : (e f g r : Bool) → (not (not e) && (not (not (f && g)) && r)) ≡ ((not (not e) && (not (not f) && r)) && (g && true))
     by false f g r = refl
@@ -42,15 +45,15 @@ none-beside v gs = rw (each-++ (λ f. f .right) (fields v) gs) (by (between 2 4 
 
 -- what the reader asks of a block
 abbrev tests : List ℕ → List Bool
-tests s = eqb (length s) 512 ∷ checked s ∷ marked s ∷ startable (settingAt s) ∷ allRight (spares s) ∷ []
+tests s = eqb (length s) 512 ∷ checked s ∷ marked s ∷ storable (settingAt s) ∷ allRight (spares s) ∷ []
 
 reads-when : (s : List ℕ) → noneApplies (readRows s) ≡ hold (tests s)
 unfolding readRows
 reads-when s = rw (none-beside (settingAt s) (spares s)) (simp Bool·not-not)
 
-writes-when : (v : Setting) (buffer : List ℕ) → noneApplies (writeRows v buffer) ≡ (startable v && (not (ltb (length buffer) 512) && true))
+writes-when : (v : Setting) (buffer : List ℕ) → noneApplies (writeRows v buffer) ≡ (storable v && (not (ltb (length buffer) 512) && true))
 unfolding writeRows
-writes-when v buffer = each-++ (λ r. not (r .applies)) (startRows v) ((13 when ltb (length buffer) 512) ∷ [])
+writes-when v buffer = each-++ (λ r. not (r .applies)) (storeRows v) ((13 when ltb (length buffer) 512) ∷ [])
 
 -- ---- a block that the reader accepts is the block of its values
 
@@ -66,13 +69,13 @@ unfolding ReadThenWrite
 read-write s v bytes e buffer l =
     let same : settingAt s ≡ v = gives-same (readRows s) (settingAt s) v e in
     let h : T (hold (tests s)) = rw reads-when at (gives-none (readRows s) _ v e) in
-    let start : T (startable v) = rw same at (hold-at (tests s) h 3) in
+    let ok : T (storable v) = rw same at (hold-at (tests s) h 3) in
     let back : blockOf v ≡ s = rw same at (block-back s bytes h) in
-    let n : T (noneApplies (writeRows v buffer)) = rw (writes-when v buffer) (pair (startable v) _ start (rw (le-ltb (length buffer) 512 l) tt)) in
+    let n : T (noneApplies (writeRows v buffer)) = rw (writes-when v buffer) (pair (storable v) _ ok (rw (le-ltb (length buffer) 512 l) tt)) in
     let written : writeOf v buffer ≡ done = none-gives (writeRows v buffer) n _ in
     (written, rw (written, back))
 
--- ---- the block of startable values is one that the reader accepts, and holds these values
+-- ---- the block of storable values is one that the reader accepts, and holds these values
 
 module _ (v : Setting) where
   abbrev body : List ℕ
@@ -92,25 +95,25 @@ module _ (v : Setting) where
   unfolding blockOf sums
   block-parts = append-assoc (header v) (replicate 436 0) sums
 
-  values-back : T (startable v) → settingAt (blockOf v) ≡ v
-  values-back h = rw block-parts (setting-back v (replicate 436 0 ++ sums) (startable-is h))
+  values-back : T (storable v) → settingAt (blockOf v) ≡ v
+  values-back h = rw block-parts (setting-back v (replicate 436 0 ++ sums) (storable-is v h))
 
   block-checked : checked (blockOf v) ≡ true
   unfolding blockOf
   block-checked = sealed-checked body body-length
 
-  block-tests : T (startable v) → T (hold (tests (blockOf v)))
+  block-tests : T (storable v) → T (hold (tests (blockOf v)))
   block-tests h =
       let l : eqb (length (blockOf v)) 512 ≡ true = eq-eqb (length (blockOf v)) 512 block-length in
       let m : marked (blockOf v) ≡ true = rw block-parts (header-marked v (replicate 436 0 ++ sums)) in
       let z : allRight (spares (blockOf v)) ≡ true = is-true (zero-spares (blockOf v) (rw block-parts (header-zero v sums))) in
-      let start : startable v ≡ true = is-true h in
-      rw (l, block-checked, m, values-back h, start, z) tt
+      let ok : storable v ≡ true = is-true h in
+      rw (l, block-checked, m, values-back h, ok, z) tt
 
 pub write-read : WriteThenRead
 unfolding WriteThenRead
 write-read v buffer e =
     let n : T (noneApplies (writeRows v buffer)) = gives-none (writeRows v buffer) _ _ e in
-    let start : T (startable v) = split (startable v) _ (rw writes-when at n) .0 in
+    let ok : T (storable v) = split (storable v) _ (rw writes-when at n) .0 in
     let block : take 512 (writeLeaves v buffer) ≡ blockOf v = rw e (take-at (blockOf v) (drop 512 buffer) 512 (block-length v)) in
-    rw block (none-gives (readRows (blockOf v)) (rw reads-when (block-tests v start)) _ ∙ ap gives (values-back v start))
+    rw block (none-gives (readRows (blockOf v)) (rw reads-when (block-tests v ok)) _ ∙ ap gives (values-back v ok))

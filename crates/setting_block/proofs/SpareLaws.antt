@@ -1,44 +1,46 @@
--- The search for a zero byte that is not zero, from a place on: one turn of a loop that tests byte after byte.
-use mathlib.Core.Path.{_≡_, sym, _∙_}
+-- A loop over the zero bytes: the search from the place k on gives what the whole search gives.
+use mathlib.Core.Path.{_≡_, ap, _∙_}
 use mathlib.Core.Bool.{cond}
-use mathlib.Core.List.{List, map}
-use Prim.Native.Nat.{ℕ, suc, _+_, _-_, _<_, _≤_}
+use mathlib.Core.List.{List}
+use Prim.Native.Nat.{ℕ, _+_, _-_, _<_, _≤_}
 use native.Mathlib.Omega.{arith}
-use native.Mathlib.Nat.{add-zero}
 use lib.Dec.{eqb}
-use lib.ListN.{getD}
-use borrow.Author.Tests.{eq-eqb, ne-eqb}
+use lib.ListN.{length, getD, drop, length-map, List·getD-map, List·getD-append}
+use lib.Seq.{getD-append-add}
 use Rattle.integer.specs.Lists.{upTo}
-use Rattle.integer.proofs.Places.{upTo-same}
-use Rattle.setting.specs.declared.Fault.{Fault}
+use Rattle.integer.proofs.Places.{getD-upTo}
 use Rattle.setting.specs.declared.Fault.the-variants.{Nowhere, At}
 use Rattle.setting.specs.Search.{firstWrong}
-use Rattle.setting_block.specs.Layout.{spare}
+use Rattle.setting.proofs.FieldLaws.{search-turn, search-done}
+use Rattle.setting_block.specs.Layout.{fewSpares, spareOffsets, spare, spares}
 
--- the first of n bytes from a place on that is not zero
-abbrev pub searchFrom : List ℕ → (n at : ℕ) → Fault
-searchFrom s n at = firstWrong (map (spare s) (upTo n (λ k. at + k)))
+-- ---- the place k: one of the nine, or 65 + k
 
-next : (s : List ℕ) (n at : ℕ) → searchFrom s (suc n) at ≡ cond (eqb (getD s at 0) 0) (searchFrom s n (at + 1)) (At at)
-unfolding upTo
-next s n at = rw (add-zero at, upTo-same n (λ k. at + suc k) (λ k. (at + 1) + k) (λ k l. omega arith))
+abbrev run : List ℕ
+run = upTo 436 (λ i. 74 + i)
 
--- what is left to search, up to the place `end`, gives the answer r
-module _ (s : List ℕ) (at end : ℕ) {r : Fault} (inv : searchFrom s (end - at) at ≡ r) where
-  module _ (h : at < end) where
-    here : r ≡ cond (eqb (getD s at 0) 0) (searchFrom s (end - (at + 1)) (at + 1)) (At at)
-    here =
-        let e : end - at ≡ suc (end - (at + 1)) = omega arith in
-        sym (rw e at inv) ∙ next s (end - (at + 1)) at
+pub few-at : (k : ℕ) → k < 9 → getD spareOffsets k 0 ≡ getD fewSpares k 0
+few-at k h = List·getD-append fewSpares run 0 k h
 
-    pub search-stop : (getD s at 0 ≡ 0 → ⊥) → At at ≡ r
-    search-stop n = sym (here ∙ rw (ne-eqb (getD s at 0) 0 n))
+pub run-at : (k : ℕ) → 9 ≤ k → k < 445 → getD spareOffsets k 0 ≡ 65 + k
+run-at k l h =
+    let e : 9 + (k - 9) ≡ k = omega arith in
+    let f : 74 + (k - 9) ≡ 65 + k = omega arith in
+    rw (e, f) at (getD-append-add fewSpares run (k - 9) 0 ∙ getD-upTo 436 (λ i. 74 + i) (k - 9) 0 (omega arith))
 
-    pub search-more : getD s at 0 ≡ 0 → searchFrom s (end - (at + 1)) (at + 1) ≡ r
-    search-more z = sym (here ∙ rw (eq-eqb (getD s at 0) 0 z))
+-- ---- one turn
 
-  pub search-done : end ≤ at → Nowhere ≡ r
-  unfolding upTo
-  search-done h =
-      let e : end - at ≡ 0 = omega arith in
-      rw e at inv
+module _ (s : List ℕ) (k : ℕ) (inv : firstWrong (drop k (spares s)) ≡ firstWrong (spares s)) where
+  count : length (spares s) ≡ 445
+  unfolding spares upTo
+  count = length-map spareOffsets (spare s)
+
+  pub spare-turn :
+      {at : ℕ} → getD spareOffsets k 0 ≡ at → k < 445 →
+      firstWrong (spares s) ≡ cond (eqb (getD s at 0) 0) (firstWrong (drop (k + 1) (spares s))) (At at)
+  unfolding spares
+  spare-turn {at} e h =
+      search-turn (spares s) k inv (spare s 0) {f = spare s at} (List·getD-map (spare s) spareOffsets k 0 ∙ ap (spare s) e) (omega (arith, count))
+
+  pub spare-done : 445 ≤ k → Nowhere ≡ firstWrong (spares s)
+  spare-done h = search-done (spares s) k inv (omega (arith, count))

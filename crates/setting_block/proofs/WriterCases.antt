@@ -14,7 +14,7 @@ use Rattle.refusal.specs.declared.Verdict.the-variants.{Accepted, Refused}
 use Rattle.refusal.specs.Refusals.{numberOf, Row, declines, done, byOutcome, _when_, firstRefusal, outcomeOf, offsetsOf}
 use Rattle.block.specs.Block.{sealed, placed}
 use Rattle.setting.specs.declared.Setting.{Setting}
-use Rattle.setting.specs.Values.{startRows}
+use Rattle.setting.specs.Values.{storeRows}
 use Rattle.setting.specs.Calls.{Judges}
 use Rattle.setting_block.specs.Layout.{Laid, header, blockOf}
 use Rattle.setting_block.specs.Calls.{writeRows, writeOf, Writes}
@@ -27,7 +27,8 @@ _then_ {b} {p} {q} {at = at} k l =
     let n : ℕ = at + length p in
     let start : List ℕ = take at b ++ p in
     let s : length start ≡ n = length-append (take at b) p ∙ rw (length-take-le at b (k .place)) in
-    let past : drop (n + length q) (start ++ drop n b) ≡ drop (n + length q) b = rw s at (drop-append-add start (drop n b) (length q)) ∙ drop-drop (length q) n b in
+    let past : drop (n + length q) (start ++ drop n b) ≡ drop (n + length q) b =
+    rw s at (drop-append-add start (drop n b) (length q)) ∙ drop-drop (length q) n b in
     let e : at + length (p ++ q) ≡ n + length q = omega (arith, length-append p q) in
     let joined : start ++ q ≡ take at b ++ (p ++ q) = append-assoc (take at b) p q in
     record { place = k .place; bytes = l .bytes ∙ rw (k .bytes, take-at start (drop n b) n s, past, e, joined) }
@@ -45,7 +46,7 @@ module _ (v : Setting) (buffer : List ℕ) where
   -- what the rows give, by the verdict on the values
   rows-by : {r : Verdict} → Judges v r → writeOf v buffer ≡ byOutcome (outcomeOf r) declines (λ _. firstRefusal room)
   unfolding writeRows
-  rows-by {r} j = rw (j .outcome) (firstOf-++ (tt {0}) (tt {0}) room (startRows v))
+  rows-by {r} j = rw (j .outcome) (firstOf-++ (tt {0}) (tt {0}) room (storeRows v))
 
   pub not-sound : {q : Refusal} → Judges v (Refused q) → Writes v buffer (Refused q) buffer
   not-sound j = let o : writeOf v buffer ≡ declines _ = rows-by j in record { outcome = sym o; bytes = rw o; offset = j .offset }

@@ -10,8 +10,9 @@ use Rattle.refusal.specs.declared.Verdict.{Verdict}
 use Rattle.refusal.specs.Refusals.{numberOf, Outcome, gives, declines, byOutcome, Row, _when_, firstOf, firstRefusal, offsetsOf}
 use Rattle.refusal.specs.Refusals as R
 use Rattle.block.specs.Block.{checked, placed}
+use Rattle.setting.specs.declared.Field.{Field}
 use Rattle.setting.specs.declared.Setting.{Setting}
-use Rattle.setting.specs.Values.{FieldRule, fields, valueRows, startRows}
+use Rattle.setting.specs.Values.{fields, valueRows, storeRows}
 use Rattle.setting.specs.Calls.{Wrong}
 use Rattle.setting_block.specs.declared.ReadSetting.{ReadSetting}
 use Rattle.setting_block.specs.declared.ReadSetting.the-variants.{Accepted, Refused}
@@ -20,7 +21,7 @@ use Rattle.setting_block.specs.Layout.{settingAt, marked, spares, blockO
 -- ---- the reader
 
 -- the fields and zero bytes of a block
-abbrev pub blockFields : List ℕ → List FieldRule
+abbrev pub blockFields : List ℕ → List Field
 blockFields s = fields (settingAt s) ++ spares s
 
 -- what the reader declines a block with, in order
@@ -52,7 +53,7 @@ pub record Reads (s : List ℕ) (r : ReadSetting) : Type 0 where
 
 -- 4 to 7, then 13: the buffer ends before the block does
 unfoldable pub writeRows : Setting → (buffer : List ℕ) → List Row
-writeRows v buffer = startRows v ++ ((13 when ltb (length buffer) 512) ∷ [])
+writeRows v buffer = storeRows v ++ ((13 when ltb (length buffer) 512) ∷ [])
 
 abbrev pub writeOf : Setting → (buffer : List ℕ) → Outcome (Unit {0})
 writeOf v buffer = firstRefusal (writeRows v buffer)

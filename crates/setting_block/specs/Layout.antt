@@ -1,6 +1,6 @@
 -- The setting block's 512 bytes (document 01, "The setting block").
 use mathlib.Core.Path.{_≡_}
-use mathlib.Core.Bool.{Bool, _&&_}
+use mathlib.Core.Bool.{Bool, false, _&&_}
 use mathlib.Core.List.{List, [], _∷_, _++_, map}
 use Prim.Native.Nat.{ℕ, _+_, _*_, _≤_}
 use lib.Dec.{eqb}
@@ -9,8 +9,8 @@ use Rattle.integer.specs.Lists.{upTo}
 use Rattle.block.specs.Bytes.{u16At, u32At, bytes16, bytes32}
 use Rattle.block.specs.Block.{sealed}
 use Rattle.setting.specs.declared.End.{End}
+use Rattle.setting.specs.declared.Field.{Field}
 use Rattle.setting.specs.declared.Setting.{Setting}
-use Rattle.setting.specs.Values.{FieldRule, field}
 
 -- ---- what stands where
 
@@ -29,13 +29,16 @@ settingAt s =
       e1 = endAt s 24;
       e2 = endAt s 36;
       e3 = endAt s 48;
-      basic = u16At s 60;
-      high = u16At s 62;
-      slope1 = u16At s 64;
-      slope2 = u16At s 66;
-      third = u16At s 68;
-      second = u16At s 70;
-      fifth = u16At s 72;
+      thresholds =
+          record {
+            basic = u16At s 60;
+            high = u16At s 62;
+            slope1 = u16At s 64;
+            slope2 = u16At s 66;
+            third = u16At s 68;
+            second = u16At s 70;
+            fifth = u16At s 72;
+          };
     }
 
 -- 0 to 3: the mark
@@ -46,14 +49,17 @@ marked s = eqb (getD s 0 0) 0x54 && (eqb (getD s 1 0) 0x44 && (eqb (getD s 2 0) 
 abbrev pub endSpares : ℕ → List ℕ
 endSpares z = (22 + 12 * z) ∷ (23 + 12 * z) ∷ []
 
+abbrev pub fewSpares : List ℕ
+fewSpares = 7 ∷ (endSpares 0 ++ (endSpares 1 ++ (endSpares 2 ++ endSpares 3)))
+
 abbrev pub spareOffsets : List ℕ
-spareOffsets = 7 ∷ (endSpares 0 ++ (endSpares 1 ++ (endSpares 2 ++ (endSpares 3 ++ upTo 436 (λ k. 74 + k)))))
+spareOffsets = fewSpares ++ upTo 436 (λ k. 74 + k)
 
--- each zero byte is a field by itself
-abbrev pub spare : List ℕ → ℕ → FieldRule
-spare s at = field at (eqb (getD s at 0) 0)
+-- each zero byte is a field by itself, which is never in use
+abbrev pub spare : List ℕ → ℕ → Field
+spare s at = (at, false, 0, 0, getD s at 0)
 
-unfoldable pub spares : List ℕ → List FieldRule
+unfoldable pub spares : List ℕ → List Field
 spares s = map (spare s) spareOffsets
 
 -- ---- the block of setting values
@@ -75,13 +81,13 @@ header v =
     ++ endBytes (v .e1)
     ++ endBytes (v .e2)
     ++ endBytes (v .e3)
-    ++ bytes16 (v .basic)
-    ++ bytes16 (v .high)
-    ++ bytes16 (v .slope1)
-    ++ bytes16 (v .slope2)
-    ++ bytes16 (v .third)
-    ++ bytes16 (v .second)
-    ++ bytes16 (v .fifth)
+    ++ bytes16 (v .thresholds .basic)
+    ++ bytes16 (v .thresholds .high)
+    ++ bytes16 (v .thresholds .slope1)
+    ++ bytes16 (v .thresholds .slope2)
+    ++ bytes16 (v .thresholds .third)
+    ++ bytes16 (v .thresholds .second)
+    ++ bytes16 (v .thresholds .fifth)
 
 -- 74 to 509 zero, then the check
 unfoldable pub blockOf : Setting → List ℕ

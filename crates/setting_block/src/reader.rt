@@ -1,11 +1,9 @@
 // The setting block, read.
 
 ghost use mathlib.Core.Path.{_≡_};
-ghost use mathlib.Core.List.{[], _∷_, map};
-ghost use Prim.Native.Nat.{_+_, _≤_, _<_};
+ghost use Prim.Native.Nat.{_+_, _≤_};
 ghost use lib.ListN.{length};
-ghost use Rattle.integer.specs.Lists.{upTo};
-ghost use Rattle.setting_block.specs.Layout.{endAt, settingAt, marked as markedOf, spare, spares};
+ghost use Rattle.setting_block.specs.Layout.{endAt, settingAt, marked as markedOf, spares};
 ghost use Rattle.setting_block.specs.Calls.{Reads};
 ghost use Rattle.setting.specs.Search.{firstWrong};
 use crate::ReadSetting;
@@ -14,8 +12,8 @@ use refusal::Verdict;
 use setting::End;
 use setting::Fault;
 use setting::Setting;
+use setting::Thresholds;
 use setting::judging;
-use setting::rules::or_else;
 
 fn marked(s: &[u8]) -> bool
     requires { ⌜ length (now s) ≡ 512 ⌝ }
@@ -53,6 +51,15 @@ fn setting_at(s: &[u8]) -> Setting
     let e1 = end_at(s, 24);
     let e2 = end_at(s, 36);
     let e3 = end_at(s, 48);
+    let t = Thresholds {
+        basic: block::u16_at(s, 60),
+        high: block::u16_at(s, 62),
+        slope1: block::u16_at(s, 64),
+        slope2: block::u16_at(s, 66),
+        third: block::u16_at(s, 68),
+        second: block::u16_at(s, 70),
+        fifth: block::u16_at(s, 72),
+    };
     Setting {
         ends: s[4],
         flags: s[5],
@@ -62,52 +69,32 @@ fn setting_at(s: &[u8]) -> Setting
         e1: e1,
         e2: e2,
         e3: e3,
-        basic: block::u16_at(s, 60),
-        high: block::u16_at(s, 62),
-        slope1: block::u16_at(s, 64),
-        slope2: block::u16_at(s, 66),
-        third: block::u16_at(s, 68),
-        second: block::u16_at(s, 70),
-        fifth: block::u16_at(s, 72),
+        thresholds: t,
     }
 }
 
-// The fault of one byte that must be zero, and the first of those from 74 to 509.
-fn spare_byte(s: &[u8], at: u16) -> Fault
-    requires { ⌜ at < length (now s) ⌝ }
-    ensures { λ r. ⌜ r ≡ firstWrong (spare (now (s .entry)) at ∷ []) ⌝ }
-{
-    if s[at as usize] != 0 {
-        return Fault::At(at);
-    }
-    Fault::Nowhere
-}
-
-fn long_spare(s: &[u8]) -> Fault
-    requires { ⌜ length (now s) ≡ 512 ⌝ }
-    ensures { λ r. ⌜ r ≡ firstWrong (map (spare (now (s .entry))) (upTo 436 (λ k. 74 + k))) ⌝ }
-{
-    let mut at: u16 = 74;
-    while at < 510 {
-        if s[at as usize] != 0 {
-            return Fault::At(at);
-        }
-        at += 1;
-    }
-    Fault::Nowhere
-}
-
-// The first byte that must be zero and is not.
+// The first byte that must be zero and is not: one of nine among the fields, or from 74 on.
 fn spare_fault(s: &[u8]) -> Fault
     requires { ⌜ length (now s) ≡ 512 ⌝ }
     ensures { λ r. ⌜ r ≡ firstWrong (spares (now (s .entry))) ⌝ }
 {
-    let end0 = or_else(spare_byte(s, 22), spare_byte(s, 23));
-    let end1 = or_else(spare_byte(s, 34), spare_byte(s, 35));
-    let end2 = or_else(spare_byte(s, 46), spare_byte(s, 47));
-    let end3 = or_else(spare_byte(s, 58), spare_byte(s, 59));
-    let ends = or_else(or_else(end0, end1), or_else(end2, end3));
-    or_else(spare_byte(s, 7), or_else(ends, long_spare(s)))
+    let few: [u16; 9] = [7, 22, 23, 34, 35, 46, 47, 58, 59];
+    let mut k: usize = 0;
+    while k < 9 {
+        let at = few[k];
+        if s[at as usize] != 0 {
+            return Fault::At(at);
+        }
+        k += 1;
+    }
+    while k < 445 {
+        let at = 65 + k;
+        if s[at] != 0 {
+            return Fault::At(at as u16);
+        }
+        k += 1;
+    }
+    Fault::Nowhere
 }
 
 // The values of a setting block, or the refusal, 1 to 7.

@@ -63,13 +63,14 @@ fn block_of(v: Setting) -> [u8; 512]
     let b = put_end(b, 24, v.e1);
     let b = put_end(b, 36, v.e2);
     let b = put_end(b, 48, v.e3);
-    let b = put_16(b, 60, v.basic);
-    let b = put_16(b, 62, v.high);
-    let b = put_16(b, 64, v.slope1);
-    let b = put_16(b, 66, v.slope2);
-    let b = put_16(b, 68, v.third);
-    let b = put_16(b, 70, v.second);
-    let b = put_16(b, 72, v.fifth);
+    let t = v.thresholds;
+    let b = put_16(b, 60, t.basic);
+    let b = put_16(b, 62, t.high);
+    let b = put_16(b, 64, t.slope1);
+    let b = put_16(b, 66, t.slope2);
+    let b = put_16(b, 68, t.third);
+    let b = put_16(b, 70, t.second);
+    let b = put_16(b, 72, t.fifth);
     block::seal(b)
 }
 

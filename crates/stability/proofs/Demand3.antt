@@ -88,7 +88,7 @@ module _ (v : Setting) (s : T (startable v)) where
   number-at xs z l h =
       let i = index-small l in
       let e : (3 * z + index l) / 3 ≡ z = omega arith in
-      getD-upTo 12 _ (3 * z + index l) (pos 0) (omega (arith, startable-is s .limits .four))
+      getD-upTo 12 _ (3 * z + index l) (pos 0) (omega (arith, startable-is v s .limits .four))
       ∙ rw (e, index-system z l, lt-ltb z (v .ends) h)
 
   numbers-close : (xs : List ℤ) → T (accepted v xs) → Healthy v xs → Close v (numbers v xs)
@@ -103,19 +103,19 @@ module _ (v : Setting) (s : T (startable v)) where
       sums-close : (k : ℕ) → k < 12 → sums (v .ends) (held ws .values) l k within (13 * v .ends)
       unfolding windowOf
       sums-close k h =
-          let four = startable-is s .limits .four in
+          let four = startable-is v s .limits .four in
           let at : k < length (last12 ws) = omega (arith, eqb-true (length (last12 ws)) 12 f) in
           within-is (sum-same _ _ (v .ends) (λ z j. flat-at (each-last12 twelves) _ k (3 * z + index l) at (omega (arith, index-small l))))
           (each-get (each-last12 close) (close-none v) k l)
 
       d-small : differential v (held ws .values) l ≤ peak (v .ends)
       unfolding PeakBound
-      d-small = let g = startable-is s .limits in peak-bound (v .ends) (g .two) (g .four) _ sums-close
+      d-small = let g = startable-is v s .limits in peak-bound (v .ends) (g .two) (g .four) _ sums-close
 
       quiet-system : let win = held ws .values in (start v win l ≡ false) × (counts v (differential v win l) (start v win l) (blocked v win l) ≡ false)
       unfolding QuietBound
       quiet-system =
-          let g = startable-is s in
+          let g = startable-is v s in
           let few : differential v (held ws .values) l ≤ 91 = omega (arith, d-small, peak-small (v .ends) (g .limits .four)) in
           quiet-bound v (g .basic .least) (g .high .least) _ few _ (blocked v (held ws .values) l)
 

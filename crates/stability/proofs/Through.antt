@@ -9,7 +9,7 @@ use Rattle.integer.specs.Nearest.{nearest, floor}
 use Rattle.integer.specs.Sum.{sum}
 use Rattle.integer.specs.Lists.{upTo}
 use Rattle.integer.specs.Tests.{eqZ}
-use Rattle.setting.specs.Values.{endOf, above, below, factor, factorHigh, factorsLow, valueRows, fields}
+use Rattle.setting.specs.Values.{endOf, above, below, factor, factorHigh, factorsLow, valueRows}
 use Rattle.setting.specs.Worked.{factory}
 use Rattle.matching.specs.Matching.{Three, three, operation, sum3}
 use Rattle.matching.specs.Sets.{System, sysA, sysB, sysC, seen, phases, filtered}
@@ -80,5 +80,5 @@ healthy =
     }
 
 pub through-fault : ThroughFault
-unfolding ThroughFault factory through factor factorHigh factorsLow valueRows fields nearest floor upTo setRows eqZ
+unfolding ThroughFault factory through factor factorHigh factorsLow valueRows nearest floor upTo setRows eqZ
 through-fault = (tt, tt, healthy)

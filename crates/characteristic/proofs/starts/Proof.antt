@@ -23,8 +23,8 @@ returns : tie.Need-returns
 unfolding starts
 returns c =
     let start = c .before .before .before in
-    let low : start .args .c .r ≤ start .args .v .basic = omega arith in
-    let under : start .args .c .r ≤ 2 * start .args .v .third = omega (arith, start .pre) in
+    let low : start .args .c .r ≤ start .args .v .thresholds .basic = omega arith in
+    let under : start .args .c .r ≤ 2 * start .args .v .thresholds .third = omega (arith, start .pre) in
     rw (c .before .before .wide .ensures .is, le-leb _ _ low, le-ltb _ _ low, le-ltb _ _ under) (sym (or-false _))
 
 sub-past : tie.Need-sub-past
@@ -37,8 +37,8 @@ returns-2 : tie.Need-returns-2
 unfolding starts
 returns-2 c =
     let start = c .before .before .before .before .before in
-    let past : start .args .v .basic < start .args .c .r = omega arith in
-    let under : start .args .c .r ≤ 2 * start .args .v .third = omega arith in
+    let past : start .args .v .thresholds .basic < start .args .c .r = omega arith in
+    let under : start .args .c .r ≤ 2 * start .args .v .thresholds .third = omega arith in
     rw (c .past .ensures, add-zero, c .before .before .before .before .wide .ensures .is, lt-leb _ _ past, lt-ltb _ _ past, le-leb _ _ under, le-ltb _ _ under)
     (sym (or-false _))
 
@@ -55,8 +55,8 @@ returns-3 : tie.Need-returns-3
 unfolding starts
 returns-3 c =
     let start = c .before .before .before .before .before in
-    let past : start .args .v .basic < start .args .c .r = omega arith in
-    let over : 2 * start .args .v .third < start .args .c .r = omega arith in
+    let past : start .args .v .thresholds .basic < start .args .c .r = omega arith in
+    let over : 2 * start .args .v .thresholds .third < start .args .c .r = omega arith in
     rw (
       c .past2 .ensures,
       c .before .before .before .before .wide .ensures .is,

@@ -7,8 +7,8 @@ use Rattle.relay.specs.Calls.{blank}
 use Rattle.relay.proofs.Relay.start.Statement.{statement}
 use Rattle.relay.proofs.Relay.start.Tie as tie
 
-verdict-requires : tie.Need-verdict-requires
-verdict-requires c κs = search needs
+start-verdict-requires : tie.Need-start-verdict-requires
+start-verdict-requires c κs = search needs
 
 started-on-requires : tie.Need-started-on-requires
 started-on-requires c κs = search needs
@@ -18,7 +18,7 @@ fresh-requires c κs = search needs
 
 returns : tie.Need-returns
 returns c =
-    let j = c .before .before .verdict .ensures in
+    let j = c .before .before .start-verdict .ensures in
     let v = c .before .before .before .args .v in
     record {
       reply = j .outcome;
@@ -29,4 +29,4 @@ returns c =
     }
 
 pub start-spec : {M : Type 1} → statement M
-start-spec = tie.close (tie.spec verdict-requires started-on-requires fresh-requires returns)
+start-spec = tie.close (tie.spec start-verdict-requires started-on-requires fresh-requires returns)

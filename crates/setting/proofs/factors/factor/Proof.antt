@@ -43,9 +43,9 @@ nearest-same p q = rw (p, q)
 
 returns : tie.Need-returns
 returns c =
-    rw
-    (back-ok w64 (c .nearest .result) (c .nearest .ok), c .nearest .ensures, back (mul-n-3 (c .before)), back (mul-n-2 (c .before .before)), back (cast-n (c .before .before)), back (cast-n-2 (c .before)))
-    (nearest-same (simp ints (omega arith)) (omega arith))
+    let n = c .before in
+    rw (back-ok w64 (c .nearest .result) (c .nearest .ok), c .nearest .ensures)
+    (rw (back (mul-n-3 n), back (mul-n-2 (n .before)), back (cast-n (n .before)), back (cast-n-2 n)) (nearest-same (simp ints (omega arith)) (omega arith)))
 
 pub factor-spec : {M : Type 1} → statement M
 factor-spec = tie.close (tie.spec mul-n cast-n mul-n-2 cast-n-2 mul-n-3 mul-nearest nearest-requires returns)

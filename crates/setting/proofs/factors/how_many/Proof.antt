@@ -11,26 +11,24 @@ use lib.IntN.{ℤ, pos}
 use lib.Signed.{leZ}
 use borrow.Author.Needs.{needs}
 use mir.Syntax.{w64}
-use mir.Val.{toZ, ofZ}
 use Rattle.integer.proofs.Reading.{ints, _⇒_}
-use Rattle.integer.proofs.Machine.{back-ok}
+use Rattle.integer.proofs.Machine.{back, back-ok}
 use Rattle.setting.specs.Values.{count}
 use Rattle.setting.proofs.FactorLaws.{count-next}
 use Rattle.setting.proofs.factors.how_many.Statement.{statement}
 use Rattle.setting.proofs.factors.how_many.Tie as tie
 
--- a factor that is not below the limit
-abbrev reached : ℤ → Bool
-reached x = leZ (pos 32768) x
-
 abbrev Inv-loop : tie.InvT-loop
-Inv-loop k n₀ z₀ n z = (z ≤ 4) × (n ≤ z) × (n + count reached (drop z k) ≡ count reached k)
+Inv-loop least k n₀ z₀ n z = (z ≤ 4) × (n ≤ z) × (n + count (leZ (pos least)) (drop z k) ≡ count (leZ (pos least)) k)
 
 abbrev μ-loop : tie.MeasureT-loop
-μ-loop k n₀ z₀ n z = 4 - z
+μ-loop least k n₀ z₀ n z = 4 - z
 
 loop-holds : tie.Need-loop-holds Inv-loop μ-loop
 loop-holds c = search needs
+
+cast-if1 : tie.Need-cast-if1 Inv-loop μ-loop
+cast-if1 c = search needs
 
 mul-if1 : tie.Need-mul-if1 Inv-loop μ-loop
 mul-if1 c = search needs
@@ -54,12 +52,12 @@ module _ (c : tie.After-if12 Inv-loop μ-loop) where
   abbrev z : ℕ
   z = c .before .before .loop .z
 
+  abbrev reached : ℤ → Bool
+  reached = leZ (pos (c .before .before .before .args .least))
+
   -- the factor that is looked at
   abbrev x : ℤ
   x = getD k z (pos 0)
-
-  read : toZ w64 (ofZ w64 x) ≡ x
-  read = back-ok w64 x (c .if12 .given)
 
   next : count reached (drop z k) ≡ cond (reached x) 1 0 + count reached (drop (z + 1) k)
   next = let four : length k ≡ 4 = search needs in count-next reached k z (pos 0) (omega (arith, c .before .loop-test .taken))
@@ -67,13 +65,14 @@ module _ (c : tie.After-if12 Inv-loop μ-loop) where
 loop-again : tie.Need-loop-again Inv-loop μ-loop
 loop-again c =
     let b = c .before in
+    let i = b .before .before .loop .inv .2 in
     ⊎-elim
     (λ w.
-    let here : reached (x b) ≡ true = (rw (read b) at (w .0 .taken)) ⇒ simp ints (omega arith) in
-    omega (arith, w .1, rw here at (next b), c .before .before .before .loop .inv .2))
+    let here : reached b (x b) ≡ true = rw (back (cast-if1 (b .before)), back-ok w64 (x b) (b .if12 .given)) at (w .0 .taken) in
+    omega (arith, w .1, rw here at (next b), i))
     (λ w.
-    let here : reached (x b) ≡ false = (rw (read b) at (w .0 .left)) ⇒ simp ints (omega arith) in
-    omega (arith, w .1, rw here at (next b), c .before .before .before .loop .inv .2))
+    let here : reached b (x b) ≡ false = rw (back (cast-if1 (b .before)), back-ok w64 (x b) (b .if12 .given)) at (w .0 .left) in
+    omega (arith, w .1, rw here at (next b), i))
     (c .if1 .came)
 
 returns : tie.Need-returns Inv-loop μ-loop
@@ -84,4 +83,4 @@ returns c =
     omega (arith, rw (drop-of-length-le l none) at (c .before .loop .inv .2))
 
 pub how-many-spec : {M : Type 1} → statement M
-how-many-spec = tie.close (tie.spec Inv-loop μ-loop loop-holds mul-if1 array-copy-out-if1 add-n add-z loop-less loop-again returns)
+how-many-spec = tie.close (tie.spec Inv-loop μ-loop loop-holds cast-if1 mul-if1 array-copy-out-if1 add-n add-z loop-less loop-again returns)

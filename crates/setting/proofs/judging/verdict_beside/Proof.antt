@@ -1,32 +1,34 @@
--- `setting::judging::verdict_beside` meets its contract: each answer is the case of `verdictOf` that the tests on the way lead to.
+-- `setting::judging::verdict_beside` meets its contract: each answer is that of the first row that the tests on the way leave.
 -- Where no field is outside its rule the factors can be worked out, and the four of them are high or low as those of the ends in use are.
-use mathlib.Core.Path.{_≡_, refl, sym, _∙_}
-use mathlib.Core.Bool.{true}
+use mathlib.Core.Path.{_≡_, sym, _∙_}
+use mathlib.Core.Bool.{true, false}
+use mathlib.Core.List.{List, _++_}
 use native.Mathlib.Omega.{arith}
 use lib.Dec.{ltb}
 use borrow.Author.Needs.{needs}
 use borrow.Author.Tests.{le-leb, lt-leb, lt-ltb, le-ltb}
+use Rattle.integer.specs.Tests.{none, _&_}
 use Rattle.setting.specs.declared.Setting.{Setting}
 use Rattle.setting.specs.declared.Fault.{Fault}
-use Rattle.setting.specs.declared.Fault.the-variants.{Nowhere}
-use Rattle.setting.specs.Values.{between, fields, factorHigh, factorsLow}
+use Rattle.setting.specs.declared.Field.{Field}
+use Rattle.setting.specs.Values.{between, fields, allRight, factorHigh, factorsLow, valueRows}
 use Rattle.setting.specs.Limits.{Limits}
-use Rattle.setting.specs.Search.{firstWrong, sooner, verdictOf}
-use Rattle.setting.proofs.FieldLaws.{all-right, sooner-nowhere}
-use Rattle.setting.proofs.FactorLaws.{four-each, four-count}
+use Rattle.setting.specs.Search.{firstWrong}
+use Rattle.setting.proofs.FieldLaws.{Tells, tells-sooner, first-right}
+use Rattle.setting.proofs.FactorLaws.{high-is, low-is}
 use Rattle.setting.proofs.LimitLaws.{limits-of}
 use Rattle.setting.proofs.judging.verdict_beside.Statement.{statement}
 use Rattle.setting.proofs.judging.verdict_beside.Tie as tie
 
 returns : tie.Need-returns
-unfolding verdictOf
-returns c = rw (lt-leb 2 (c .before .before .args .v .ends) (omega (arith, c .if1 .taken)))
+unfolding valueRows
+returns c gs g = record { outcome = rw (lt-leb 2 (c .before .before .args .v .ends) (omega (arith, c .if1 .taken))); offset = none }
 
 returns-2 : tie.Need-returns-2
-unfolding verdictOf
-returns-2 c =
+unfolding valueRows
+returns-2 c gs g =
     let n = c .before .before .before .before .args .v .ends in
-    rw (le-leb 2 n (omega (arith, c .before .before .if1 .left)), lt-leb n 4 (omega (arith, c .if2 .taken)))
+    record { outcome = rw (le-leb 2 n (omega (arith, c .before .before .if1 .left)), lt-leb n 4 (omega (arith, c .if2 .taken))); offset = none }
 
 -- where the number of ends is 2 to 4
 module _ (c : tie.Else2) where
@@ -45,18 +47,21 @@ fault-requires c κs = search needs
 sooner-requires : tie.Need-sooner-requires
 sooner-requires c κs = search needs
 
--- what the search answers
-searched : (c : tie.After-sooner) → sooner (firstWrong (fields (v (c .before .before)))) (beside (c .before .before)) ≡ c .sooner .result
-searched c = rw (← (c .before .fault .ensures)) (sym (c .sooner .ensures))
+-- what the two searches tell of all fields
+told :
+    (c : tie.After-sooner) (gs : List Field) → beside (c .before .before) ≡ firstWrong gs →
+    Tells (fields (v (c .before .before)) ++ gs) (c .sooner .result)
+told c gs g = tells-sooner (fields (v (c .before .before))) gs (c .before .fault .ensures) g (c .sooner .ensures)
 
 enum-known-f : tie.Need-enum-known-f
 enum-known-f c = search needs
 
 returns-3 : tie.Need-returns-3
-unfolding verdictOf
-returns-3 c =
+unfolding valueRows
+returns-3 c gs g =
     let s = c .before .before .before in
-    rw (ends (s .before .before), searched s, c .before .f .given .1)
+    let t = rw (c .before .f .given .1) at (told s gs g) in
+    record { outcome = rw (ends (s .before .before), t .0); offset = t .1 & none }
 
 enum-told : tie.Need-enum-told
 enum-told c = search needs
@@ -66,50 +71,55 @@ module _ (c : tie.After-enum-told) where
   abbrev e : tie.Else2
   e = c .before .before .before .before
 
-  none : sooner (firstWrong (fields (v e))) (beside e) ≡ Nowhere
-  none = searched (c .before .before) ∙ c .enum-told .given .1
+  right : (gs : List Field) → beside e ≡ firstWrong gs → allRight (fields (v e) ++ gs) ≡ true
+  right gs g = rw (c .enum-told .given .1) at (told (c .before .before) gs g)
 
   limits : Limits (v e)
   limits =
-      let right = all-right (fields (v e)) (sooner-nowhere (firstWrong (fields (v e))) (beside e) none) in
-      limits-of (e .before .before .if1 .left) (e .if2 .left) (rw right tt)
+      let s = c .before .before in
+      let f = first-right (fields (v e)) _ _ (s .before .fault .ensures) (sym (s .sooner .ensures) ∙ c .enum-told .given .1) in
+      limits-of (v e) (rw f tt) (e .before .before .if1 .left) (e .if2 .left)
 
 factors-requires : tie.Need-factors-requires
 factors-requires c κs = limits c
 
-any-high-requires : tie.Need-any-high-requires
-any-high-requires c κs = search needs
-
-high-is : (c : tie.After-any-high) → c .any-high .result ≡ factorHigh (v (e (c .before .before)))
-unfolding factorHigh
-high-is c = rw (c .any-high .ensures, c .before .factors .ensures, four-each (limits (c .before .before)) _ refl)
-
-returns-4 : tie.Need-returns-4
-unfolding verdictOf
-returns-4 c =
-    let n = c .before .before .before in
-    rw (ends (e n), none n, ← (high-is (c .before)), c .if3 .taken)
-
 how-many-requires : tie.Need-how-many-requires
 how-many-requires c κs = search needs
 
-low-is : (c : tie.After-how-many) → ltb (c .how-many .result) 2 ≡ factorsLow (v (e (c .before .before .before .before)))
-unfolding factorsLow
-low-is c = rw (c .how-many .ensures, c .before .before .before .factors .ensures, four-count (limits (c .before .before .before .before)) _ refl)
+returns-4 : tie.Need-returns-4
+unfolding valueRows
+returns-4 c gs g =
+    let n = c .before .before .before in
+    let high = high-is (limits n) (c .before .before .factors .ensures) (c .before .how-many .ensures) in
+    record { outcome = rw (ends (e n), right n gs g, high, lt-ltb _ _ (c .if3 .taken)); offset = none }
+
+how-many-requires-2 : tie.Need-how-many-requires-2
+how-many-requires-2 c κs = search needs
+
+-- where no factor is high
+module _ (c : tie.After-how-many2) where
+  abbrev n : tie.After-enum-told
+  n = c .before .before .before .before
+
+  not-high : factorHigh (v (e n)) ≡ false
+  not-high =
+      let b = c .before .before in
+      high-is (limits n) (b .before .factors .ensures) (b .how-many .ensures) ∙ le-ltb 0 (b .how-many .result) (c .before .if3 .left)
+
+  low : factorsLow (v (e n)) ≡ ltb (c .how-many2 .result) 2
+  low = low-is (limits n) (c .before .before .before .factors .ensures) (c .how-many2 .ensures)
 
 returns-5 : tie.Need-returns-5
-unfolding verdictOf
-returns-5 c =
-    let n = c .before .before .before .before .before in
-    rw
-    (ends (e n), none n, ← (high-is (c .before .before .before)), c .before .before .if3 .left, ← (low-is (c .before)), lt-ltb (c .before .how-many .result) 2 (omega (arith, c .if4 .taken)))
+unfolding valueRows
+returns-5 c gs g =
+    let b = c .before in
+    record { outcome = rw (ends (e (n b)), right (n b) gs g, not-high b, low b, lt-ltb _ _ (c .if4 .taken)); offset = none }
 
 returns-6 : tie.Need-returns-6
-unfolding verdictOf
-returns-6 c =
-    let n = c .before .before .before .before .before in
-    rw
-    (ends (e n), none n, ← (high-is (c .before .before .before)), c .before .before .if3 .left, ← (low-is (c .before)), le-ltb (c .before .how-many .result) 2 (omega (arith, c .if4 .left)))
+unfolding valueRows
+returns-6 c gs g =
+    let b = c .before in
+    record { outcome = rw (ends (e (n b)), right (n b) gs g, not-high b, low b, le-ltb _ _ (c .if4 .left)); offset = none }
 
 pub verdict-beside-spec : {M : Type 1} → statement M
 verdict-beside-spec =
@@ -123,8 +133,8 @@ verdict-beside-spec =
     returns-3
     enum-told
     factors-requires
-    any-high-requires
-    returns-4
     how-many-requires
+    returns-4
+    how-many-requires-2
     returns-5
     returns-6)

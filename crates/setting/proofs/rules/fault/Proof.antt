@@ -1,68 +1,74 @@
--- `setting::rules::fault` meets its contract: the faults of the parts of the block, in their order, by the law of all fields.
-use mathlib.Core.Path.{sym}
+-- `setting::rules::fault` meets its contract. The loop's invariant: the search from k on gives what the whole search gives. The measure is what is left.
 use borrow.Author.Needs.{needs}
-use Rattle.setting.proofs.FieldLaws.{firstWrong-fields}
+use borrow.Author.Tests.{not-true, not-false}
+use mathlib.Core.Path.{_≡_, refl, sym, ap, _∙_}
+use mathlib.Core.Bool.{false}
+use Prim.Native.Nat.{_-_, _≤_}
+use lib.ListN.{drop}
+use Rattle.setting.specs.Search.{firstWrong}
+use Rattle.setting.proofs.FieldLaws.{search-turn, search-done}
 use Rattle.setting.proofs.rules.fault.Statement.{statement}
 use Rattle.setting.proofs.rules.fault.Tie as tie
 
-end-fault-requires : tie.Need-end-fault-requires
-end-fault-requires c κs = search needs
+abbrev Inv-loop : tie.InvT-loop
+Inv-loop fs k₀ k = (k ≤ 26) × (firstWrong (drop k fs) ≡ firstWrong fs)
 
-end-fault-requires-2 : tie.Need-end-fault-requires-2
-end-fault-requires-2 c κs = search needs
+abbrev μ-loop : tie.MeasureT-loop
+μ-loop fs k₀ k = 26 - k
 
-or-else-requires : tie.Need-or-else-requires
-or-else-requires c κs = search needs
+fields-requires : tie.Need-fields-requires Inv-loop μ-loop
+fields-requires c κs = search needs
 
-end-fault-requires-3 : tie.Need-end-fault-requires-3
-end-fault-requires-3 c κs = search needs
+loop-holds : tie.Need-loop-holds Inv-loop μ-loop
+loop-holds c = search needs
 
-end-fault-requires-4 : tie.Need-end-fault-requires-4
-end-fault-requires-4 c κs = search needs
+mul-f : tie.Need-mul-f Inv-loop μ-loop
+mul-f c = search needs
 
-or-else-requires-2 : tie.Need-or-else-requires-2
-or-else-requires-2 c κs = search needs
+array-copy-out-f : tie.Need-array-copy-out-f Inv-loop μ-loop
+array-copy-out-f c = search needs
 
-or-else-requires-3 : tie.Need-or-else-requires-3
-or-else-requires-3 c κs = search needs
+right-requires : tie.Need-right-requires Inv-loop μ-loop
+right-requires c κs = search needs
 
-head-fault-requires : tie.Need-head-fault-requires
-head-fault-requires c κs = search needs
-
-tail-fault-requires : tie.Need-tail-fault-requires
-tail-fault-requires c κs = search needs
-
-or-else-requires-4 : tie.Need-or-else-requires-4
-or-else-requires-4 c κs = search needs
-
-or-else-requires-5 : tie.Need-or-else-requires-5
-or-else-requires-5 c κs = search needs
-
-returns : tie.Need-returns
+returns : tie.Need-returns Inv-loop μ-loop
 returns c =
-    let head = c .before .before .before in
-    let ends = head .before in
-    let end3 = ends .before .before in
-    let end2 = end3 .before in
-    let end1 = end2 .before .before in
-    let end0 = end1 .before in
-    rw
-    (c .or-else5 .ensures, c .before .or-else4 .ensures, c .before .before .tail-fault .ensures, head .head-fault .ensures, ends .or-else3 .ensures, ends .before .or-else2 .ensures, end3 .end-fault4 .ensures, end2 .end-fault3 .ensures, end2 .before .or-else .ensures, end1 .end-fault2 .ensures, end0 .end-fault .ensures)
-    (sym (firstWrong-fields (end0 .before .args .v)))
+    let b = c .before in
+    let l = b .before .before .before in
+    let turn = search-turn (l .before .fields .result) (l .loop .k) (l .loop .inv .1) (0, false, 0, 0, 0) refl (search needs) in
+    sym (turn ∙ rw (sym (b .right .ensures) ∙ not-true (b .right .result) (c .if1 .taken))) ∙ ap firstWrong (l .before .fields .ensures)
+
+add-k : tie.Need-add-k Inv-loop μ-loop
+add-k c = search needs
+
+loop-less : tie.Need-loop-less Inv-loop μ-loop
+loop-less c = search needs
+
+loop-again : tie.Need-loop-again Inv-loop μ-loop
+loop-again c =
+    let b = c .before in
+    let l = b .before .before .before in
+    let turn = search-turn (l .before .fields .result) (l .loop .k) (l .loop .inv .1) (0, false, 0, 0, 0) refl (search needs) in
+    (search needs, sym (turn ∙ rw (sym (b .right .ensures) ∙ not-false (b .right .result) (c .if1 .left))))
+
+returns-2 : tie.Need-returns-2 Inv-loop μ-loop
+returns-2 c =
+    let f = c .before .before .fields in
+    search-done (f .result) (c .before .loop .k) (c .before .loop .inv .1) (search needs) ∙ ap firstWrong (f .ensures)
 
 pub fault-spec : {M : Type 1} → statement M
 fault-spec =
     tie.close
     (tie.spec
-    end-fault-requires
-    end-fault-requires-2
-    or-else-requires
-    end-fault-requires-3
-    end-fault-requires-4
-    or-else-requires-2
-    or-else-requires-3
-    head-fault-requires
-    tail-fault-requires
-    or-else-requires-4
-    or-else-requires-5
-    returns)
+    Inv-loop
+    μ-loop
+    fields-requires
+    loop-holds
+    mul-f
+    array-copy-out-f
+    right-requires
+    returns
+    add-k
+    loop-less
+    loop-again
+    returns-2)

@@ -26,7 +26,9 @@ shared-slice-read-result : tie.Need-shared-slice-read-result
 shared-slice-read-result c = search needs
 
 returns-4 : tie.Need-returns-4
-returns-4 c = rw (eq-eqb _ _ (c .before .before .before .before .before .if1 .left), eq-eqb _ _ (c .before .before .before .if2 .left), eq-eqb _ _ (c .before .if3 .left))
+returns-4 c =
+    let b = c .before .before .before in
+    rw (eq-eqb _ _ (b .before .before .if1 .left), eq-eqb _ _ (b .if2 .left), eq-eqb _ _ (c .before .if3 .left))
 
 pub marked-spec : {M : Type 1} → statement M
 marked-spec =

@@ -1,7 +1,7 @@
 -- `setting_block::reader::read_setting` meets its contract: it tests the first three rows in their order, and the verdict on the values tells the others.
 use borrow.Author.Needs.{needs}
 use borrow.Author.Tests.{eq-eqb, ne-eqb}
-use mathlib.Core.Path.{_≡_, refl, sym, ap, _∙_}
+use mathlib.Core.Path.{_≡_, refl, ap}
 use mathlib.Core.Bool.{not}
 use mathlib.Core.List.{List}
 use Prim.Native.Nat.{ℕ}
@@ -10,6 +10,7 @@ use Rattle.integer.specs.Tests.{Each, none, _&_}
 use Rattle.integer.proofs.TestLaws.{each-append}
 use Rattle.refusal.specs.declared.Verdict.{Verdict}
 use Rattle.refusal.proofs.Stops.{Passed, here, past}
+use Rattle.setting_block.specs.Layout.{spares}
 use Rattle.setting_block.specs.Calls.{readRows, Reads}
 use Rattle.setting_block.proofs.ReaderCases.{answer, refused, judged}
 use Rattle.setting_block.proofs.reader.read_setting.Statement.{statement}
@@ -67,7 +68,7 @@ answered : (c : tie.After-verdict-beside) {r : Verdict} → c .verdict-beside .r
 answered c e =
     rw (c .before .before .setting-at .ensures)
     (judged _ (passed-3 (c .before .before .before))
-    (sym e ∙ c .verdict-beside .ensures ∙ rw (c .before .spare-fault .ensures, c .before .before .setting-at .ensures)))
+    (rw (c .before .before .setting-at .ensures, e) at (c .verdict-beside .ensures (spares _) (c .before .spare-fault .ensures))))
 
 enum-told : tie.Need-enum-told
 enum-told c = search needs

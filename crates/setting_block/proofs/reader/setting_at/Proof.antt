@@ -17,18 +17,6 @@ end-at-requires-3 c κs = search needs
 end-at-requires-4 : tie.Need-end-at-requires-4
 end-at-requires-4 c κs = search needs
 
-shared-slice-read-t7 : tie.Need-shared-slice-read-t7
-shared-slice-read-t7 c = search needs
-
-shared-slice-read-t9 : tie.Need-shared-slice-read-t9
-shared-slice-read-t9 c = search needs
-
-shared-slice-read-t11 : tie.Need-shared-slice-read-t11
-shared-slice-read-t11 c = search needs
-
-u32-at-requires : tie.Need-u32-at-requires
-u32-at-requires c κs = search needs
-
 u16-at-requires : tie.Need-u16-at-requires
 u16-at-requires c κs = search needs
 
@@ -50,30 +38,45 @@ u16-at-requires-6 c κs = search needs
 u16-at-requires-7 : tie.Need-u16-at-requires-7
 u16-at-requires-7 c κs = search needs
 
+shared-slice-read-t15 : tie.Need-shared-slice-read-t15
+shared-slice-read-t15 c = search needs
+
+shared-slice-read-t17 : tie.Need-shared-slice-read-t17
+shared-slice-read-t17 c = search needs
+
+shared-slice-read-t19 : tie.Need-shared-slice-read-t19
+shared-slice-read-t19 c = search needs
+
+u32-at-requires : tie.Need-u32-at-requires
+u32-at-requires c κs = search needs
+
 returns : tie.Need-returns
 unfolding settingAt
 returns c =
-    let high = c .before .before .before .before .before in
-    let power = high .before .before in
-    let e3 = power .before .before .before .before in
+    let fifth = c .before .before .before .before in
+    let high = fifth .before .before .before .before .before in
+    let e3 = high .before .before in
     let s = e3 .before .before .before .before .before .args .s .now in
     λ i.
     record {
       ends = getD s 4 0;
       flags = getD s 5 0;
       confirm = getD s 6 0;
-      power = power .u32-at .ensures i;
+      power = c .u32-at .ensures i;
       e0 = e3 .before .before .before .end-at .ensures i;
       e1 = e3 .before .before .end-at2 .ensures i;
       e2 = e3 .before .end-at3 .ensures i;
       e3 = e3 .end-at4 .ensures i;
-      basic = high .before .u16-at .ensures i;
-      high = high .u16-at2 .ensures i;
-      slope1 = c .before .before .before .before .u16-at3 .ensures i;
-      slope2 = c .before .before .before .u16-at4 .ensures i;
-      third = c .before .before .u16-at5 .ensures i;
-      second = c .before .u16-at6 .ensures i;
-      fifth = c .u16-at7 .ensures i;
+      thresholds =
+          record {
+            basic = high .before .u16-at .ensures i;
+            high = high .u16-at2 .ensures i;
+            slope1 = fifth .before .before .before .before .u16-at3 .ensures i;
+            slope2 = fifth .before .before .before .u16-at4 .ensures i;
+            third = fifth .before .before .u16-at5 .ensures i;
+            second = fifth .before .u16-at6 .ensures i;
+            fifth = fifth .u16-at7 .ensures i;
+          };
     }
 
 pub setting-at-spec : {M : Type 1} → statement M
@@ -84,10 +87,6 @@ setting-at-spec =
     end-at-requires-2
     end-at-requires-3
     end-at-requires-4
-    shared-slice-read-t7
-    shared-slice-read-t9
-    shared-slice-read-t11
-    u32-at-requires
     u16-at-requires
     u16-at-requires-2
     u16-at-requires-3
@@ -95,4 +94,8 @@ setting-at-spec =
     u16-at-requires-5
     u16-at-requires-6
     u16-at-requires-7
+    shared-slice-read-t15
+    shared-slice-read-t17
+    shared-slice-read-t19
+    u32-at-requires
     returns)

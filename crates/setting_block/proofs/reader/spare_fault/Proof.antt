@@ -1,101 +1,126 @@
--- `setting_block::reader::spare_fault` meets its contract: the fault of each zero byte, in their order, by the law of the first of two faults.
+-- `setting_block::reader::spare_fault` meets its contract. The loops' invariant: the search from the place k on gives what the whole search gives.
+-- The measure is what is left.
 use borrow.Author.Needs.{needs}
-use mathlib.Core.Path.{refl}
-use Rattle.setting.proofs.FieldLaws.{searches}
-use Rattle.setting_block.specs.Layout.{spares}
+use borrow.Author.Tests.{eq-eqb, ne-eqb}
+use mathlib.Core.Path.{_≡_, sym, _∙_}
+use Prim.Native.Nat.{ℕ, _-_, _<_, _≤_}
+use native.Mathlib.Omega.{arith}
+use lib.Dec.{ltb, ltb→lt}
+use lib.ListN.{getD, drop}
+use Rattle.integer.proofs.TestLaws.{each-get, test-each}
+use Rattle.setting.specs.Search.{firstWrong}
+use Rattle.setting_block.specs.Layout.{fewSpares, spares}
+use Rattle.setting_block.proofs.SpareLaws.{few-at, run-at, spare-turn, spare-done}
 use Rattle.setting_block.proofs.reader.spare_fault.Statement.{statement}
 use Rattle.setting_block.proofs.reader.spare_fault.Tie as tie
 
-spare-byte-requires : tie.Need-spare-byte-requires
-spare-byte-requires c κs = search needs
+abbrev Inv-loop : tie.InvT-loop
+Inv-loop s few k₀ k = (k ≤ 9) × (firstWrong (drop k (spares s)) ≡ firstWrong (spares s))
 
-spare-byte-requires-2 : tie.Need-spare-byte-requires-2
-spare-byte-requires-2 c κs = search needs
+abbrev μ-loop : tie.MeasureT-loop
+μ-loop s few k₀ k = 9 - k
 
-or-else-requires : tie.Need-or-else-requires
-or-else-requires c κs = search needs
+abbrev Inv-loop2 : tie.InvT-loop2
+Inv-loop2 s k₀ k = (9 ≤ k) × (k ≤ 445) × (firstWrong (drop k (spares s)) ≡ firstWrong (spares s))
 
-spare-byte-requires-3 : tie.Need-spare-byte-requires-3
-spare-byte-requires-3 c κs = search needs
+abbrev μ-loop2 : tie.MeasureT-loop2
+μ-loop2 s k₀ k = 445 - k
 
-spare-byte-requires-4 : tie.Need-spare-byte-requires-4
-spare-byte-requires-4 c κs = search needs
+loop-holds : tie.Need-loop-holds Inv-loop μ-loop Inv-loop2 μ-loop2
+loop-holds c = search needs
 
-or-else-requires-2 : tie.Need-or-else-requires-2
-or-else-requires-2 c κs = search needs
+mul-at : tie.Need-mul-at Inv-loop μ-loop Inv-loop2 μ-loop2
+mul-at c = search needs
 
-spare-byte-requires-5 : tie.Need-spare-byte-requires-5
-spare-byte-requires-5 c κs = search needs
+array-read-at : tie.Need-array-read-at Inv-loop μ-loop Inv-loop2 μ-loop2
+array-read-at c = search needs
 
-spare-byte-requires-6 : tie.Need-spare-byte-requires-6
-spare-byte-requires-6 c κs = search needs
+-- each of the nine places lies in the block
+few-in : (k : ℕ) → getD fewSpares k 0 < 512
+few-in k = each-get (test-each (λ x. ltb x 512) (λ x. ltb→lt x 512) fewSpares tt) {d = 0} (omega arith) k
 
-or-else-requires-3 : tie.Need-or-else-requires-3
-or-else-requires-3 c κs = search needs
+cast-if1 : tie.Need-cast-if1 Inv-loop μ-loop Inv-loop2 μ-loop2
+cast-if1 c = omega (arith, few-in (c .before .loop .k))
 
-spare-byte-requires-7 : tie.Need-spare-byte-requires-7
-spare-byte-requires-7 c κs = search needs
+shared-slice-read-if1 : tie.Need-shared-slice-read-if1 Inv-loop μ-loop Inv-loop2 μ-loop2
+shared-slice-read-if1 c = omega (arith, few-in (c .before .before .loop .k))
 
-spare-byte-requires-8 : tie.Need-spare-byte-requires-8
-spare-byte-requires-8 c κs = search needs
-
-or-else-requires-4 : tie.Need-or-else-requires-4
-or-else-requires-4 c κs = search needs
-
-or-else-requires-5 : tie.Need-or-else-requires-5
-or-else-requires-5 c κs = search needs
-
-or-else-requires-6 : tie.Need-or-else-requires-6
-or-else-requires-6 c κs = search needs
-
-or-else-requires-7 : tie.Need-or-else-requires-7
-or-else-requires-7 c κs = search needs
-
-spare-byte-requires-9 : tie.Need-spare-byte-requires-9
-spare-byte-requires-9 c κs = search needs
-
-long-spare-requires : tie.Need-long-spare-requires
-long-spare-requires c κs = c .before .before .before .before .before .before .before .before .before .before .before .before .before .before .before .before .before .pre
-
-or-else-requires-8 : tie.Need-or-else-requires-8
-or-else-requires-8 c κs = search needs
-
-or-else-requires-9 : tie.Need-or-else-requires-9
-or-else-requires-9 c κs = search needs
-
-returns : tie.Need-returns
-unfolding spares
+returns : tie.Need-returns Inv-loop μ-loop Inv-loop2 μ-loop2
 returns c =
-    let ends = c .before .before .before .before in
-    let end3 = ends .before .before .before in
-    let end2 = end3 .before .before .before in
-    let end1 = end2 .before .before .before in
-    let end0 = end1 .before .before .before in
-    simp
-    (c .or-else9 .ensures, c .before .or-else8 .ensures, c .before .before .long-spare .ensures, c .before .before .before .spare-byte9 .ensures, ends .or-else7 .ensures, ends .before .or-else6 .ensures, ends .before .before .or-else5 .ensures, end3 .or-else4 .ensures, end3 .before .spare-byte8 .ensures, end3 .before .before .spare-byte7 .ensures, end2 .or-else3 .ensures, end2 .before .spare-byte6 .ensures, end2 .before .before .spare-byte5 .ensures, end1 .or-else2 .ensures, end1 .before .spare-byte4 .ensures, end1 .before .before .spare-byte3 .ensures, end0 .or-else .ensures, end0 .before .spare-byte2 .ensures, end0 .before .before .spare-byte .ensures, searches)
-    refl
+    let l = c .before .before .before in
+    let k = l .loop .k in
+    sym (spare-turn (l .before .args .s .now) k (l .loop .inv .1) (few-at k (search needs)) (omega arith) ∙ rw (ne-eqb _ _ (c .if1 .taken)))
+
+add-k : tie.Need-add-k Inv-loop μ-loop Inv-loop2 μ-loop2
+add-k c = search needs
+
+loop-less : tie.Need-loop-less Inv-loop μ-loop Inv-loop2 μ-loop2
+loop-less c = search needs
+
+loop-again : tie.Need-loop-again Inv-loop μ-loop Inv-loop2 μ-loop2
+loop-again c =
+    let l = c .before .before .before in
+    let k = l .loop .k in
+    (search needs, sym (spare-turn (l .before .args .s .now) k (l .loop .inv .1) (few-at k (search needs)) (omega arith) ∙ rw (eq-eqb _ _ (c .if1 .left))))
+
+loop2-holds : tie.Need-loop2-holds Inv-loop μ-loop Inv-loop2 μ-loop2
+loop2-holds c = search needs
+
+add-at : tie.Need-add-at Inv-loop μ-loop Inv-loop2 μ-loop2
+add-at c = search needs
+
+shared-slice-read-if2 : tie.Need-shared-slice-read-if2 Inv-loop μ-loop Inv-loop2 μ-loop2
+shared-slice-read-if2 c = search needs
+
+cast-t16 : tie.Need-cast-t16 Inv-loop μ-loop Inv-loop2 μ-loop2
+cast-t16 c = search needs
+
+returns-2 : tie.Need-returns-2 Inv-loop μ-loop Inv-loop2 μ-loop2
+returns-2 c =
+    let l = c .before .before .before in
+    let k = l .loop2 .k in
+    let turn = spare-turn (l .before .before .before .args .s .now) k (l .loop2 .inv .2) (run-at k (search needs) (search needs)) (search needs) in
+    sym (turn ∙ rw (ne-eqb _ _ (c .if2 .taken)))
+
+add-k-2 : tie.Need-add-k-2 Inv-loop μ-loop Inv-loop2 μ-loop2
+add-k-2 c = search needs
+
+loop2-less : tie.Need-loop2-less Inv-loop μ-loop Inv-loop2 μ-loop2
+loop2-less c = search needs
+
+loop2-again : tie.Need-loop2-again Inv-loop μ-loop Inv-loop2 μ-loop2
+loop2-again c =
+    let l = c .before .before .before in
+    let k = l .loop2 .k in
+    let turn = spare-turn (l .before .before .before .args .s .now) k (l .loop2 .inv .2) (run-at k (search needs) (search needs)) (search needs) in
+    (search needs, search needs, sym (turn ∙ rw (eq-eqb _ _ (c .if2 .left))))
+
+returns-3 : tie.Need-returns-3 Inv-loop μ-loop Inv-loop2 μ-loop2
+returns-3 c = spare-done (c .before .before .before .before .args .s .now) (c .before .loop2 .k) (c .before .loop2 .inv .2) (search needs)
 
 pub spare-fault-spec : {M : Type 1} → statement M
 spare-fault-spec =
     tie.close
     (tie.spec
-    spare-byte-requires
-    spare-byte-requires-2
-    or-else-requires
-    spare-byte-requires-3
-    spare-byte-requires-4
-    or-else-requires-2
-    spare-byte-requires-5
-    spare-byte-requires-6
-    or-else-requires-3
-    spare-byte-requires-7
-    spare-byte-requires-8
-    or-else-requires-4
-    or-else-requires-5
-    or-else-requires-6
-    or-else-requires-7
-    spare-byte-requires-9
-    long-spare-requires
-    or-else-requires-8
-    or-else-requires-9
-    returns)
+    Inv-loop
+    μ-loop
+    Inv-loop2
+    μ-loop2
+    loop-holds
+    mul-at
+    array-read-at
+    cast-if1
+    shared-slice-read-if1
+    returns
+    add-k
+    loop-less
+    loop-again
+    loop2-holds
+    add-at
+    shared-slice-read-if2
+    cast-t16
+    returns-2
+    add-k-2
+    loop2-less
+    loop2-again
+    returns-3)

@@ -1,8 +1,7 @@
 -- `setting_block::writer::block_of` meets its contract: the pieces, put one after the other into a block of zeros, are the header, and zeros are left after it.
 use borrow.Author.Needs.{needs}
 use mathlib.Core.Path.{_∙_}
-use lib.ListN.{replicate}
-use Rattle.setting_block.specs.Layout.{Laid, header}
+use Rattle.setting_block.specs.Layout.{header}
 use Rattle.setting_block.proofs.WriterCases.{_then_, header-sealed}
 use Rattle.setting_block.proofs.writer.block_of.Statement.{statement}
 use Rattle.setting_block.proofs.writer.block_of.Tie as tie
@@ -53,29 +52,29 @@ seal-requires : tie.Need-seal-requires
 seal-requires c κs = search needs
 
 -- the pieces are the header
-head : (c : tie.After-put-167) → Laid (replicate 512 0) 0 (header (c .before .before .before .before .before .before .before .before .before .before .before .before .before .before .args .v)) (c .put-167 .result)
+returns : tie.Need-returns
 unfolding header
-head c =
-    let third = c .before .before in
+returns c =
+    let third = c .before .before .before in
     let basic = third .before .before .before .before in
-    let e2 = basic .before .before in
+    let e2 = basic .before .before .before in
     let mark = e2 .before .before .before .before in
-    mark .put .ensures
+    c .seal .ensures
+    ∙ header-sealed
+    (mark .before .before .args .v)
+    (mark .put .ensures
     then e2 .before .before .before .put-32 .ensures
     then e2 .before .before .put-end .ensures
     then e2 .before .put-end2 .ensures
     then e2 .put-end3 .ensures
-    then basic .before .put-end4 .ensures
+    then basic .before .before .put-end4 .ensures
     then basic .put-16 .ensures
     then third .before .before .before .put-162 .ensures
     then third .before .before .put-163 .ensures
     then third .before .put-164 .ensures
     then third .put-165 .ensures
-    then c .before .put-166 .ensures
-    then c .put-167 .ensures
-
-returns : tie.Need-returns
-returns c = c .seal .ensures ∙ header-sealed _ (head (c .before))
+    then c .before .before .put-166 .ensures
+    then c .before .put-167 .ensures)
 
 pub block-of-spec : {M : Type 1} → statement M
 block-of-spec =
