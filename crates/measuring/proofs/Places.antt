@@ -9,7 +9,6 @@ use lib.Signed.{mag}
 use mir.Syntax.{w32}
 use mir.Val.{hbits, toZ, ofZ}
 use Rattle.integer.specs.Within.{_within_}
-use Rattle.integer.specs.Sum.{sum}
 use Rattle.integer.proofs.Laws.{within-≤, within--}
 use Rattle.integer.proofs.Machine.{back-ok}
 use Rattle.integer.proofs.SumLaws.{sum-within}
@@ -24,10 +23,6 @@ index-system (suc (suc zero)) h = refl
 index-system (suc (suc (suc y))) h = absurd (omega arith)
 
 module _ {win : List ℤ} (z : WindowInput win) where
-  -- four numbers at most, at any places
-  pub sum-small : (n : ℕ) → n ≤ 4 → (place : ℕ → ℕ) → sum n (λ k. getD win (place k) (pos 0)) within 3200000
-  sum-small n l place = within-≤ (sum-within 800000 n (λ k. getD win (place k) (pos 0)) (λ k i. z .small (place k))) (omega arith)
-
   -- what the amplitudes are taken of
   pub series-small : (e : ℕ) (l : System) (k : ℕ) → series win e l k within 3200000
   series-small e l k = within-≤ (z .small _) (omega arith)
@@ -36,7 +31,7 @@ module _ {win : List ℤ} (z : WindowInput win) where
   difference-small l k = within-≤ (within-- (z .small _) (z .small _)) (omega arith)
 
   pub sums-small : (n : ℕ) → n ≤ 4 → (l : System) (k : ℕ) → sums n win l k within 3200000
-  sums-small n h l k = sum-small n h (λ e. 12 * k + (3 * e + index l))
+  sums-small n h l k = within-≤ (sum-within 800000 n (λ e. at win k e l) (λ e i. z .small _)) (omega arith)
 
 -- a number that `at` gives, as the machine reads it
 pub read : (win : List ℤ) (k z y : ℕ) → y < 3 → {x : ℤ} → mag x < 2 ^ hbits w32 → x ≡ getD win (12 * k + (3 * z + y)) (pos 0)

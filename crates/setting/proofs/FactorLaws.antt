@@ -56,7 +56,7 @@ count-above n (x ∷ l) = rw (above-not n x) (by (leZ (pos (n + 1)) x) (count (l
 
 -- ---- a quotient of two numbers, to the nearest, is at least 0
 
-pub nearest-nonneg : (a b : ℕ) → 0 < b → pos 0 ≤ℤ nearest (pos a) b
+nearest-nonneg : (a b : ℕ) → 0 < b → pos 0 ≤ℤ nearest (pos a) b
 nearest-nonneg a b h =
     let x = nearest (pos a) b in
     cancel-< (pos (2 * b)) (negsuc 0) x (simp ints (omega arith)) (nearest-near (pos a) b h ⇒ simp ints (omega arith)) ⇒ simp ints (omega arith)

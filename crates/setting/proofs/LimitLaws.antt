@@ -16,7 +16,7 @@ use Rattle.setting.specs.declared.End.{End}
 use Rattle.setting.specs.declared.Field.{Field}
 use Rattle.setting.specs.declared.Setting.{Setting}
 use Rattle.setting.specs.Values.{between, right, endOf, fields, allRight, factor, factors, factorHigh, valueRows, storeRows, storable, startable}
-use Rattle.setting.specs.Limits.{Rated, Limits}
+use Rattle.setting.specs.Limits.{Limits}
 use Rattle.setting.proofs.FactorLaws.{each-upTo, factor-nonneg}
 
 -- ---- a field within its rule

@@ -82,10 +82,11 @@ fn fields(v: Setting) -> [Field; 26]
 fn right(f: Field) -> bool
     ensures { λ r. ⌜ r ≡ rightOf f ⌝ }
 {
-    if f.1 {
-        return f.2 <= f.4 && f.4 <= f.3;
+    let Field(_, used, least, most, value) = f;
+    if used {
+        return least <= value && value <= most;
     }
-    f.4 == 0
+    value == 0
 }
 
 // The first field outside its rule.

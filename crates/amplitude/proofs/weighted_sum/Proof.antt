@@ -108,20 +108,5 @@ returns c =
 pub weighted-sum-spec : {M : Type 1} → statement M
 weighted-sum-spec =
     tie.close
-    (tie.spec
-    Inv-loop
-    μ-loop
-    loop-holds
-    mul-sum
-    add-sum
-    mul-sum-2
-    array-copy-out-sum
-    mul-sum-3
-    array-copy-out-sum-2
-    cast-sum
-    mul-sum-4
-    add-sum-2
-    add-k
-    loop-less
-    loop-again
-    returns)
+    (tie.spec Inv-loop μ-loop loop-holds mul-sum add-sum mul-sum-2 array-copy-out-sum mul-sum-3 array-copy-out-sum-2 cast-sum mul-sum-4 add-sum-2
+    add-k loop-less loop-again returns)

@@ -63,4 +63,5 @@ returns-5 c = search needs
 pub print-nearest-spec : {M : Type 1} → statement M
 print-nearest-spec =
     tie.close
-    (tie.spec returns returns-2 returns-3 cast-n sub-nearest nearest-requires print-signed-requires returns-4 nearest-requires-2 print-signed-requires-2 returns-5)
+    (tie.spec returns returns-2 returns-3 cast-n sub-nearest nearest-requires print-signed-requires returns-4 nearest-requires-2
+    print-signed-requires-2 returns-5)

@@ -58,17 +58,4 @@ returns c = sums-done _ _ _ _ _ (c .before .loop .inv .3) (c .loop-test .left)
 pub check-sums-spec : {M : Type 1} → statement M
 check-sums-spec =
     tie.close
-    (tie.spec
-    Inv-loop
-    μ-loop
-    loop-holds
-    shared-slice-read-wider
-    wider-requires
-    add-a
-    add-b
-    add-i
-    loop-less
-    loop-again
-    cast-t11
-    cast-t13
-    returns)
+    (tie.spec Inv-loop μ-loop loop-holds shared-slice-read-wider wider-requires add-a add-b add-i loop-less loop-again cast-t11 cast-t13 returns)

@@ -34,5 +34,4 @@ returns-2 c = rw (← (sums (c .before .before .before .before .before)), eq-eqb
 
 pub checked-spec : {M : Type 1} → statement M
 checked-spec =
-    tie.close
-    (tie.spec slice-aggregate-check-sums check-sums-requires shared-slice-read-if1 returns shared-slice-read-result returns-2)
+    tie.close (tie.spec slice-aggregate-check-sums check-sums-requires shared-slice-read-if1 returns shared-slice-read-result returns-2)

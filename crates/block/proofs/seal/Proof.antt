@@ -37,5 +37,4 @@ returns c =
 
 pub seal-spec : {M : Type 1} → statement M
 seal-spec =
-    tie.close
-    (tie.spec array-share-prefix-b slice-aggregate-check-sums check-sums-requires array-write-t array-write-t-2 returns)
+    tie.close (tie.spec array-share-prefix-b slice-aggregate-check-sums check-sums-requires array-write-t array-write-t-2 returns)

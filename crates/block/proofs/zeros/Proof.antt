@@ -41,4 +41,5 @@ unfolding zeros
 returns-2 c = each-done _ _ _ (c .before .loop .inv) (c .loop-test .left)
 
 pub zeros-spec : {M : Type 1} → statement M
-zeros-spec = tie.close (tie.spec Inv-loop μ-loop loop-holds shared-slice-read-if1 returns add-at loop-less loop-again returns-2)
+zeros-spec =
+    tie.close (tie.spec Inv-loop μ-loop loop-holds shared-slice-read-if1 returns add-at loop-less loop-again returns-2)

@@ -69,5 +69,4 @@ returns-3 c =
 
 pub starts-spec : {M : Type 1} → statement M
 starts-spec =
-    tie.close
-    (tie.spec wide-requires wide-requires-2 mul-q returns sub-past past-requires returns-2 sub-past-2 sub-past-3 past-requires-2 returns-3)
+    tie.close (tie.spec wide-requires wide-requires-2 mul-q returns sub-past past-requires returns-2 sub-past-2 sub-past-3 past-requires-2 returns-3)

@@ -83,5 +83,5 @@ returns c =
 pub measure-spec : {M : Type 1} → statement M
 measure-spec =
     tie.close
-    (tie.spec system-currents-requires system-currents-requires-2 system-currents-requires-3 harmonics-requires harmonics-requires-2 harmonics-requires-3
-    common-requires system-reading-requires system-reading-requires-2 system-reading-requires-3 returns)
+    (tie.spec system-currents-requires system-currents-requires-2 system-currents-requires-3 harmonics-requires harmonics-requires-2
+    harmonics-requires-3 common-requires system-reading-requires system-reading-requires-2 system-reading-requires-3 returns)

@@ -77,18 +77,5 @@ returns-2 c =
 pub twice-restraint-spec : {M : Type 1} → statement M
 twice-restraint-spec =
     tie.close
-    (tie.spec
-    Inv-loop
-    μ-loop
-    difference-requires
-    amplitude-requires
-    returns
-    loop-holds
-    cast-series
-    series-requires
-    amplitude-requires-2
-    add-r
-    add-z
-    loop-less
-    loop-again
-    returns-2)
+    (tie.spec Inv-loop μ-loop difference-requires amplitude-requires returns loop-holds cast-series series-requires amplitude-requires-2 add-r add-z
+    loop-less loop-again returns-2)

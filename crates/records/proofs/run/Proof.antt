@@ -38,16 +38,4 @@ returns-2 c = search needs
 
 pub run-spec : {M : Type 1} → statement M
 run-spec =
-    tie.close
-    (tie.spec
-    Inv-loop
-    μ-loop
-    blank-requires
-    fresh-requires
-    loop-holds
-    next-block-requires
-    returns
-    sub-left
-    loop-less
-    loop-again
-    returns-2)
+    tie.close (tie.spec Inv-loop μ-loop blank-requires fresh-requires loop-holds next-block-requires returns sub-left loop-less loop-again returns-2)

@@ -48,4 +48,5 @@ returns-2 c = search needs
 pub put-spec : {M : Type 1} → statement M
 put-spec =
     tie.close
-    (tie.spec Inv-loop μ-loop loop-holds same-length returns shared-slice-read-buffer slice-write-buffer add-to add-i loop-less loop-again same-length-2 returns-2)
+    (tie.spec Inv-loop μ-loop loop-holds same-length returns shared-slice-read-buffer slice-write-buffer add-to add-i loop-less loop-again
+    same-length-2 returns-2)

@@ -11,7 +11,6 @@ use lib.IntN.{ℤ, pos}
 use lib.Signed.{leZ}
 use borrow.Author.Needs.{needs}
 use mir.Syntax.{w64}
-use Rattle.integer.proofs.Reading.{ints, _⇒_}
 use Rattle.integer.proofs.Machine.{back, back-ok}
 use Rattle.setting.specs.Values.{count}
 use Rattle.setting.proofs.FactorLaws.{count-next}
