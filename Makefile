@@ -9,13 +9,13 @@ CC = gcc
 CFLAGS = -std=c11 -O2 -Wall -Wextra -Werror
 HOST = target/staticlib/libhost.a
 BENCH = target/bin/bench
-RECORDS = target/bin/records
+CALLS = target/bin/calls
 SOURCES = crates.txt $(shell find crates -name '*.rt' -o -name '*.antt')
 SECOND = second/relay.c second/relay.h second/draw.c second/draw.h
 N = 4
 SEED = 1
 
-.PHONY: run test second stored proved host bench records edits mutants fuzz speed clean
+.PHONY: run test second stored proved host bench calls edits mutants fuzz speed clean
 
 run: $(BENCH)
 	$(BENCH) < examples/faults.blocks
@@ -45,8 +45,8 @@ $(HOST): $(SOURCES)
 $(BENCH): $(SOURCES)
 	rt check bench
 
-$(RECORDS): $(SOURCES)
-	rt check records
+$(CALLS): $(SOURCES)
+	rt check calls
 
 # The second program meets document 01's numbers.
 second: build/selftest
@@ -54,8 +54,8 @@ second: build/selftest
 
 # What the programs of crates/ are run on, and what they must print, is what the second program makes.
 stored: build/numbers build/vectors build/bench
-	build/numbers input | cmp - crates/arithmetic/stdin
-	build/numbers expect | cmp - crates/arithmetic/stdout
+	build/numbers input | cmp - crates/numbers/stdin
+	build/numbers expect | cmp - crates/numbers/stdout
 	build/vectors input | cmp - crates/vectors/stdin
 	build/vectors expect | cmp - crates/vectors/stdout
 	build/bench one input | cmp - crates/bench/stdin
@@ -64,7 +64,7 @@ stored: build/numbers build/vectors build/bench
 	build/bench two expect | cmp - examples/faults.out
 
 # What is run on the proved code.
-proved: host bench records
+proved: host bench calls
 
 # The C calls: the example, 100,000 setting blocks and 10,000 measuring calls against the second program.
 host: build/host build/blocks build/fuzz
@@ -82,9 +82,9 @@ bench: $(BENCH)
 	test "$$(head -c 1535 examples/faults.blocks | $(BENCH) | tail -n 1)" = "refused 1"
 
 # 300 records of sample and reset calls against the second program: each answer, with counters, latches and refusals.
-records: $(RECORDS) build/calls
+calls: $(CALLS) build/calls
 	build/calls expect > build/calls.out
-	build/calls input | $(RECORDS) | cmp - build/calls.out
+	build/calls input | $(CALLS) | cmp - build/calls.out
 
 edits:
 	tests/more-edits

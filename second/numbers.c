@@ -1,4 +1,4 @@
-/* The input of the program `arithmetic` (numbers input) and what it must print (numbers expect): quotients to the nearest, a half up, and whole
+/* The input of the program `numbers` (numbers input) and what it must print (numbers expect): quotients to the nearest, a half up, and whole
    roots, worked out here in 128 bits and by bisection. */
 #include <inttypes.h>
 #include <stdint.h>

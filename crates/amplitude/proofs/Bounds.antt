@@ -15,7 +15,7 @@ use Rattle.integer.proofs.Laws.{within-≤, within-*}
 use Rattle.integer.proofs.HalfUnit.{nearest-near}
 use Rattle.integer.proofs.RootLaws.{root-is, root-≤}
 use Rattle.integer.proofs.SumLaws.{sum-within, weight, weighted}
-use Rattle.integer.proofs.TestLaws.{test-each, each-get}
+use Rattle.lists.proofs.TestLaws.{test-each, each-get}
 use Rattle.amplitude.specs.declared.Harmonic.{Harmonic}
 use Rattle.amplitude.specs.declared.Harmonic.the-variants.{First, Second, Fifth}
 use Rattle.amplitude.specs.Amplitude.{order, constants, t, weightedSum, cycle, square, amplitude, inOrder}

@@ -5,9 +5,9 @@ use native.Mathlib.Omega.{arith}
 use lib.Dec.{T, leb, leb→le}
 use lib.IntN.{ℤ}
 use Rattle.integer.specs.Within.{_within_}
-use Rattle.integer.specs.Tests.{every}
+use Rattle.lists.specs.Tests.{every}
 use Rattle.integer.proofs.SumLaws.{weight}
-use Rattle.integer.proofs.TestLaws.{every-at}
+use Rattle.lists.proofs.TestLaws.{every-at}
 use Rattle.amplitude.specs.Amplitude.{t, amplitude}
 use Rattle.amplitude.specs.Peak.{peak, PeakBound}
 use Rattle.amplitude.proofs.Bounds.{most, bounded, amplitude-≤}

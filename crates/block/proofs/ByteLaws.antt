@@ -12,12 +12,12 @@ use lib.ListN.{length, getD, take, drop, replicate, take-append-drop, drop-of-le
 use lib.Seq.{getD-drop, getD-at, getD-append-add, take-at}
 use mir.Syntax.{w16}
 use mir.Val.{SFits}
-use Rattle.integer.specs.Tests.{Each}
+use Rattle.lists.specs.Tests.{Each}
 use Rattle.integer.proofs.Reading.{ints}
-use Rattle.integer.proofs.TestLaws.{split, each-get, test-each}
+use Rattle.lists.proofs.TestLaws.{split, each-get, test-each}
 use Rattle.block.specs.Bytes.{u16At, u32At, signed, i16At, bytes16, bytes32, bits, zeros, areBytes}
 use Rattle.block.specs.Block.{sumsOf, checked, sealed}
-use Rattle.integer.proofs.Places.{drop-next}
+use Rattle.lists.proofs.Places.{drop-next}
 
 -- ---- a number is read in a part as it is in the whole
 

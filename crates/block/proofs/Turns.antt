@@ -1,35 +1,12 @@
--- One turn of a loop over a list: one that tests each element (`each`), and that of the check's sums.
+-- One turn of the loop that adds up the check's sums.
 use mathlib.Core.Path.{_≡_, sym, ap, _∙_}
-use mathlib.Core.Bool.{Bool, true, false, _&&_}
-use mathlib.Core.List.{List, [], _∷_}
-use Prim.Native.Nat.{ℕ, zero, suc, _+_, _%_, _<_, _≤_}
+use mathlib.Core.List.{List}
+use Prim.Native.Nat.{ℕ, _+_, _%_, _<_, _≤_}
 use native.Mathlib.Omega.{arith}
-use lib.ListN.{length, take, drop, getD, drop-of-length-le}
-use Rattle.integer.specs.Tests.{each}
+use lib.ListN.{length, drop, getD, drop-of-length-le}
 use Rattle.block.specs.declared.Sums.{Sums}
 use Rattle.block.specs.Block.{sumsFrom}
-use Rattle.integer.proofs.Places.{drop-next}
-
--- a loop that returns false at the first element that fails the test t, and true at the end: what is left gives the answer r
-module _ {ℓ} {A : Type ℓ} (t : A → Bool) (s : List A) (i : ℕ) {r : Bool} (inv : each t (drop i s) ≡ r) where
-  module _ (h : i < length s) (d : A) where
-    here : r ≡ (t (getD s i d) && each t (drop (i + 1) s))
-    here = sym inv ∙ ap (each t) (drop-next s i d h)
-
-    pub each-stop : t (getD s i d) ≡ false → false ≡ r
-    each-stop e = sym (here ∙ rw e)
-
-    pub each-more : t (getD s i d) ≡ true → each t (drop (i + 1) s) ≡ r
-    each-more e = sym (here ∙ rw e)
-
-  pub each-done : length s ≤ i → true ≡ r
-  each-done h = sym (ap (each t) (drop-of-length-le s h)) ∙ inv
-
--- the first n of a list are at most n
-pub take-short : (n : ℕ) (s : List ℕ) → length (take n s) ≤ n
-take-short zero s = omega arith
-take-short (suc n) [] = omega arith
-take-short (suc n) (x ∷ s) = let h = take-short n s in omega arith
+use Rattle.lists.proofs.Places.{drop-next}
 
 -- the remainder of a sum is that of its terms' remainders
 left-mod : (a x : ℕ) → (a % 255 + x) % 255 ≡ (a + x) % 255

@@ -6,7 +6,7 @@ use Prim.Native.Nat.{ℕ, _+_, _*_, _-_, _/_, _%_, _<_}
 use lib.Dec.{ltb, eqb}
 use lib.IntN.{ℤ, pos, negsuc, _-ℤ_}
 use lib.ListN.{getD}
-use Rattle.integer.specs.Tests.{each}
+use Rattle.lists.specs.Tests.{each}
 
 -- ---- numbers read from bytes
 

@@ -4,7 +4,7 @@ ghost use mathlib.Core.Path.{_≡_};
 ghost use Prim.Native.Nat.{_+_, _≤_, _<_, _%_};
 ghost use lib.ListN.{length, take};
 ghost use Rattle.block.specs.Bytes.{u16At, u32At, signed as signedOf, i16At, bytes16, bytes32, bits as bitsOf, zeros as zerosOf, ByteOf};
-ghost use Rattle.block.specs.Block.{sumsOf, checked as checkedOf, sealed, placed};
+ghost use Rattle.block.specs.Block.{sumsOf, checked as checkedOf, sealed, bufferWith};
 
 // The two sums of the check.
 pub struct Sums {
@@ -69,7 +69,7 @@ pub fn seal(b: [u8; 512]) -> [u8; 512]
 // Puts a block at the start of a buffer.
 pub fn place(buffer: &mut [u8], b: [u8; 512])
     requires { ⌜ 512 ≤ length (now buffer) ⌝ }
-    ensures { λ _. ⌜ now (buffer .exit) ≡ placed (now (buffer .entry)) b ⌝ }
+    ensures { λ _. ⌜ now (buffer .exit) ≡ bufferWith (now (buffer .entry)) b ⌝ }
 {
     bytes::copy(&b[0..512], buffer);
 }

@@ -21,12 +21,12 @@ firstSection t D R = leb R (t .basic) && ltb (t .basic) D
 
 -- or P < R ≤ 2Q and 200·D > 200·P + m1·(R − P);
 abbrev pub secondSection : Thresholds → (D R : ℕ) → Bool
-secondSection t D R = ltb (t .basic) R && (leb R (2 * t .third) && ltb (200 * t .basic + t .slope1 * (R - t .basic)) (200 * D))
+secondSection t D R = ltb (t .basic) R && (leb R (2 * t .knee) && ltb (200 * t .basic + t .slope1 * (R - t .basic)) (200 * D))
 
 -- or R > 2Q and 200·D > 200·P + m1·(2Q − P) + m2·(R − 2Q).
 abbrev pub thirdSection : Thresholds → (D R : ℕ) → Bool
 thirdSection t D R =
-    ltb (2 * t .third) R && ltb (200 * t .basic + t .slope1 * (2 * t .third - t .basic) + t .slope2 * (R - 2 * t .third)) (200 * D)
+    ltb (2 * t .knee) R && ltb (200 * t .basic + t .slope1 * (2 * t .knee - t .basic) + t .slope2 * (R - 2 * t .knee)) (200 * D)
 
 unfoldable pub starts : Setting → (D R : ℕ) → Bool
 starts v D R = firstSection (v .thresholds) D R || (secondSection (v .thresholds) D R || thirdSection (v .thresholds) D R)

@@ -38,11 +38,11 @@ fn past(d: u32, p: u32, m: u16, x: u32, n: u16, y: u32) -> bool
 
 // The three sections of the characteristic.
 pub fn starts(v: Setting, c: Currents) -> bool
-    requires { ⌜ v .thresholds .basic ≤ 2 * v .thresholds .third ⌝ }
+    requires { ⌜ v .thresholds .basic ≤ 2 * v .thresholds .knee ⌝ }
     ensures { λ b. ⌜ b ≡ startsOf v (c .d) (c .r) ⌝ }
 {
     let p = wide(v.thresholds.basic);
-    let q = 2 * wide(v.thresholds.third);
+    let q = 2 * wide(v.thresholds.knee);
     let r = c.r;
     let d = c.d;
     if r <= p {

@@ -1,11 +1,13 @@
 -- Laws of integers: the ring's, the order's under products, and those of a bound on the size.
 use mathlib.Core.Path.{_≡_, refl}
+use lib.Dec.{T}
+use Rattle.lists.proofs.TestLaws.{split}
 use Prim.Native.Nat.{ℕ, zero, suc, _+_, _*_, _<_, _≤_}
 use native.Mathlib.Nat.{le-refl, le-trans, mul-le-mul, le-of-mul-le-mul-left, lt-of-mul-lt-mul-right}
 use native.Mathlib.Omega.{arith}
 use lib.IntN.{ℤ, pos, negsuc, negℤ, natAbs, _+ℤ_, _*ℤ_, _-ℤ_, *ℤ-comm}
-use lib.Signed.{_≤ℤ_, _<ℤ_}
-use Rattle.integer.specs.Within.{_within_}
+use lib.Signed.{leZ, leZ-yes, _≤ℤ_, _<ℤ_}
+use Rattle.integer.specs.Within.{_within_, eqZ}
 use Rattle.integer.proofs.Reading.{ints, _⇒_}
 
 -- ---- the ring
@@ -90,3 +92,11 @@ times-within k h = within-* (within-self (pos k)) h
 
 pub cancel-times : {k a : ℕ} {x : ℤ} → 0 < k → (pos k *ℤ x) within (k * a) → x within a
 cancel-times {k} {a} {x} p h = record { size = le-of-mul-le-mul-left {k = k} (rw natAbs-* at (h .size)) p }
+
+-- ---- the test for equality
+
+pub eqZ→≡ : (x y : ℤ) → T (eqZ x y) → x ≡ y
+unfolding eqZ
+eqZ→≡ x y h =
+    let k = split (leZ x y) (leZ y x) h in
+    leZ-yes {a = x} {b = y} (k .0) ⇒ leZ-yes {a = y} {b = x} (k .1) ⇒ simp ints (omega arith)

@@ -6,6 +6,3 @@ mod Rounding
 pub mod HalfUnit
 pub mod RootLaws
 pub mod SumLaws
-pub mod TestLaws
-pub mod Places
-pub mod Fill

@@ -4,7 +4,8 @@
 --     lemma x y z = simp ints (omega arith)       a goal with its hypotheses, as  lemma : (x y z : ℤ) → x ≤ℤ y → (x -ℤ z) ≤ℤ (y -ℤ z)
 --     h ⇒ k ⇒ simp ints (omega arith)             a goal, from facts h and k
 --     simp ints (omega arithℤ)                    a goal, from all that is in reach, records' fields too, about terms with no operation in them
--- Statements: `≤ℤ`, `<ℤ`, `≡`, `within`, `natAbs x ≤ n`, and what the machine asks and tells: `SFits`, `Fits w (natAbs x)`, `mag x < n`, `nonNeg`, `ltZ`, `leZ`.
+-- Statements: `≤ℤ`, `<ℤ`, `≡`, `within`, `natAbs x ≤ n`, and what the machine asks and tells: `SFits`, `Fits w (natAbs x)`, `mag x < n`, `nonNeg`,
+-- `ltZ`, `leZ`.
 -- Terms: `+ℤ`, `-ℤ`, `*ℤ`, `negℤ`, `pos n`, `negsuc n`; any other is an unknown. Products are multiplied out.
 use mathlib.Core.Path.{_≡_, refl, sym, ap, subst}
 use mathlib.Core.Bool.{Bool, true, false, not, cond}
@@ -242,7 +243,11 @@ module _ (x y : ℤ) where
   pub read-le-false : leZ x y ≡ false ↔ Lt (rd y) (rd x)
   read-le-false = simp (inside, false-is, leZ-is) (omega arith)
 
-pub ruleset statements = (read-≤, read-<, read-≡, read-within, read-abs-≤, read-abs-<, read-mag, read-nonNeg, read-fits, read-fits-abs, read-lt-true, read-lt-false, read-le-true, read-le-false, le-⊖, lt-⊖, eq-⊖)
+pub ruleset orders = (read-≤, read-<, read-≡, read-lt-true, read-lt-false, read-le-true, read-le-false, le-⊖, lt-⊖, eq-⊖)
+
+pub ruleset sizes = (read-within, read-abs-≤, read-abs-<, read-mag, read-nonNeg, read-fits, read-fits-abs)
+
+pub ruleset statements = (orders, sizes)
 
 -- the order counts: `rd-any` is for what no other equation reads
 pub ruleset ints = (statements, rd-+, rd-*, rd-neg, rd-any, neg-⊖, +-⊖, *-⊖)

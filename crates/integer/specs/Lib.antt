@@ -2,5 +2,3 @@ pub mod Within
 pub mod Nearest
 pub mod Root
 pub mod Sum
-pub mod Lists
-pub mod Tests

@@ -7,13 +7,13 @@ use native.Mathlib.Nat.{mod-lt}
 use native.Mathlib.Omega.{arith}
 use lib.IntN.{ℤ, pos, negℤ, natAbs, _+ℤ_, _-ℤ_, _*ℤ_}
 use Rattle.integer.specs.Within.{_within_}
-use Rattle.integer.specs.Lists.{upTo}
+use Rattle.lists.specs.Lists.{upTo}
 use Rattle.integer.proofs.Reading.{ints, linear}
 use Rattle.integer.proofs.Laws.{ring, within-≤, within-+, within-*, within-self}
-use Rattle.integer.proofs.Fill.{place}
+use Rattle.lists.proofs.Fill.{place}
 use Rattle.matching.specs.Matching.{Three, three, operation, sum3, lessZero, operated}
 use Rattle.matching.specs.Bank.{ideal}
-use Rattle.matching.specs.Sized.{parts}
+use Rattle.matching.specs.MatchingInput.{parts}
 -- the worked numbers, which are checked before what rests on the definitions
 use Rattle.matching.specs.Numbers as numbers
 

@@ -14,9 +14,9 @@ use Rattle.integer.proofs.HalfUnit.{nearest-near}
 use Rattle.matching.specs.Matching.{Three, three, even, sum3, operated, matched}
 use Rattle.matching.specs.Sets.{turned}
 use Rattle.matching.specs.Bank.{NearIdeal}
-use Rattle.matching.specs.Sized.{Scaled, parts}
+use Rattle.matching.specs.MatchingInput.{MatchedInput, parts}
 use Rattle.matching.proofs.Forms.{_·_, own, next, Linear, linear-p, linear-n, linear-q, linear-form, linear-parts, linear-ideal, ideal-under}
-use Rattle.matching.proofs.Rows.{matching, currents, currentsUnder, spread, chain, Row, row}
+use Rattle.matching.proofs.Rows.{matching, currents, currentsUnder, spread, chain, GroupRow, groupRow}
 use Rattle.matching.proofs.Parts.{matched-in-parts, small-form, parts-within}
 
 -- ---- from three roundings to the number: v is K m / (65536·4053), K is 65536 N / B, and m is 4053 B w / (1000 N), each with an error
@@ -81,14 +81,14 @@ regroup : (D e x y z : ℤ) → (D +ℤ e) *ℤ x +ℤ e *ℤ y +ℤ e *ℤ z �
 regroup D e x y z = simp ints (omega arith)
 
 -- the matching undoes the bank's operation: w of the system's own limb is left, since the limbs sum to zero
-undone : {g : ℕ} {f : Bool} → Row g f → (w : Three) → sum3 w ≡ pos 0 → chain g f w ≡ pos (currentsUnder g f * 4053) *ℤ w .p
+undone : {g : ℕ} {f : Bool} → GroupRow g f → (w : Three) → sum3 w ≡ pos 0 → chain g f w ≡ pos (currentsUnder g f * 4053) *ℤ w .p
 unfolding _·_
 undone {g} {f} r w h =
     linear-chain g f .is w
     ∙ rw (r .alone, r .level, regroup (pos (currentsUnder g f * 4053)) (chain g f next) (w .p) (w .n) (w .q), h) (simp ints (omega arith))
 
 -- the common number is gone, with the filter since the matching takes it out
-common-gone : {g : ℕ} {f : Bool} → Row g f → (k : ℕ) (c : ℤ) → (f ≡ false → c ≡ pos 0) → sum3 (matching g f) *ℤ (pos k *ℤ c) ≡ pos 0
+common-gone : {g : ℕ} {f : Bool} → GroupRow g f → (k : ℕ) (c : ℤ) → (f ≡ false → c ≡ pos 0) → sum3 (matching g f) *ℤ (pos k *ℤ c) ≡ pos 0
 common-gone {g} {f = true} r k c h = rw (r .flat refl) (simp ints (omega arith))
 common-gone {g} {f = false} r k c h = rw (h refl) (simp ints (omega arith))
 
@@ -100,10 +100,10 @@ reduced β N B m S W y h k = rw (h, k) (simp ints (omega arith))
 -- ---- the bounds
 
 -- an end, as the next system sees it
-pub turned-scaled : {K : ℤ} {g : ℕ} {x : Three} → Scaled K g x → Scaled K g (turned x)
+pub turned-scaled : {K : ℤ} {g : ℕ} {x : Three} → MatchedInput K g x → MatchedInput K g (turned x)
 turned-scaled s = let h = s .sampled in record { factor = s .factor; sampled = record { group = h .group; own = h .next; next = h .before; before = h .own } }
 
-module _ {K : ℤ} {g : ℕ} {x : Three} (s : Scaled K g x) (f : Bool) where
+module _ {K : ℤ} {g : ℕ} {x : Three} (s : MatchedInput K g x) (f : Bool) where
   -- what K/65,536 multiplies
   abbrev m : ℤ
   m = parts (operated (even g) f g x)
@@ -126,7 +126,7 @@ module _ {K : ℤ} {g : ℕ} {x : Three} (s : Scaled K g x) (f : Bool) where
         (pos 1000 *ℤ matched K g f x -ℤ w .p) within 13000
     one-end hB eK hw hc p n q =
         let l = s .sampled .group in
-        let r = row g f l in
+        let r = groupRow g f l in
         let F = matching g f in
         let β = currentsUnder g f in
         let a = spread (currents g f) w in

@@ -11,9 +11,9 @@ use Rattle.integer.specs.Nearest.{nearest}
 use Rattle.integer.proofs.Laws.{literal-left, within-≤, within-is}
 use Rattle.integer.proofs.HalfUnit.{nearest-times}
 use Rattle.matching.specs.Matching.{Three, even, operated, matched}
-use Rattle.matching.specs.Sized.{Sampled, parts}
+use Rattle.matching.specs.MatchingInput.{OperatedInput, parts}
 use Rattle.matching.proofs.Forms.{_·_, linear-parts, form-within}
-use Rattle.matching.proofs.Rows.{matching, row}
+use Rattle.matching.proofs.Rows.{matching, groupRow}
 
 -- a top m times, over m times as much
 times-both : (m u : ℕ) (K t : ℤ) → 0 < m → 0 < u → nearest (K *ℤ t) (65536 * u) ≡ nearest (K *ℤ (pos m *ℤ t)) (m * (65536 * u))
@@ -34,7 +34,7 @@ matched-in-parts K g f x = in-parts K (even g) f g x
 -- the form of the matching at three numbers within b
 pub small-form : {g : ℕ} (f : Bool) → g < 12 → {y : Three} {b : ℕ} → (y .p) within b → (y .n) within b → (y .q) within b →
     (matching g f · y) within (6031 * b)
-small-form {g} f l {y} {b} h k m = within-≤ (form-within (matching g f) h k m) (mul-le-mul-right b (row g f l .small))
+small-form {g} f l {y} {b} h k m = within-≤ (form-within (matching g f) h k m) (mul-le-mul-right b (groupRow g f l .small))
 
-pub parts-within : {g : ℕ} {x : Three} → Sampled g x → (f : Bool) → parts (operated (even g) f g x) within (6031 * 32000)
+pub parts-within : {g : ℕ} {x : Three} → OperatedInput g x → (f : Bool) → parts (operated (even g) f g x) within (6031 * 32000)
 parts-within {g} {x} s f = within-is (linear-parts (even g) f g (s .group) .is x) (small-form f (s .group) (s .own) (s .next) (s .before))

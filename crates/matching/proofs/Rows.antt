@@ -6,14 +6,14 @@ use Prim.Native.Nat.{ℕ, _*_, _^_, _≤_, _<_}
 use native.Mathlib.Nat.{mul-le-mul-right}
 use lib.Dec.{T, leb, ltb, leb→le, ltb→lt}
 use lib.IntN.{ℤ, pos, _+ℤ_}
-use Rattle.integer.specs.Within.{_within_}
-use Rattle.integer.specs.Tests.{hold, every, eqZ}
-use Rattle.integer.proofs.Laws.{within-≤, within-is}
-use Rattle.integer.proofs.TestLaws.{hold-at, every-at, when, eqZ→≡}
+use Rattle.integer.specs.Within.{_within_, eqZ}
+use Rattle.lists.specs.Tests.{hold, every}
+use Rattle.integer.proofs.Laws.{within-≤, within-is, eqZ→≡}
+use Rattle.lists.proofs.TestLaws.{hold-at, every-at, when}
 use Rattle.matching.specs.Matching.{Three, three, operation, even, sum3, operated}
 use Rattle.matching.specs.Sets.{turned}
 use Rattle.matching.specs.Bank.{ideal}
-use Rattle.matching.specs.Sized.{Small, parts}
+use Rattle.matching.specs.MatchingInput.{OperationInput, parts}
 use Rattle.matching.proofs.Forms.{_·_, own, next, before, formOf, linear-group, size, form-within}
 
 -- ---- the two forms of a pair
@@ -39,7 +39,7 @@ chain g f w = matching g f · spread (currents g f) w
 
 -- ---- what holds of each pair
 
-pub record Row (g : ℕ) (f : Bool) : Type 0 where
+pub record GroupRow (g : ℕ) (f : Bool) : Type 0 where
   pub least : 0 < currentsUnder g f
   -- the sizes of the coefficients sum to at most 6031 parts
   pub small : size (matching g f) ≤ 6031
@@ -64,9 +64,9 @@ unfolding facts eqZ operated ideal operation _·_
 checked true = tt
 checked false = tt
 
-pub row : (g : ℕ) (f : Bool) → g < 12 → Row g f
+pub groupRow : (g : ℕ) (f : Bool) → g < 12 → GroupRow g f
 unfolding facts
-row g f l =
+groupRow g f l =
     let at = hold-at (facts f g) (every-at 12 (λ g. hold (facts f g)) (checked f) g l) in
     record {
       least = ltb→lt _ _ (at 0);
@@ -85,7 +85,7 @@ two-at-most : T (every 12 (λ g. leb (size (ofGroup g)) 2))
 unfolding operation
 two-at-most = tt
 
-pub operation-within : {g : ℕ} {p n q : ℤ} → g < 12 → Small p n q → operation g p n q within 2 ^ 21
+pub operation-within : {g : ℕ} {p n q : ℤ} → g < 12 → OperationInput p n q → operation g p n q within 2 ^ 21
 operation-within {g} {p} {n} {q} l s =
     let two : size (ofGroup g) ≤ 2 = leb→le _ _ (every-at 12 (λ g. leb (size (ofGroup g)) 2) two-at-most g l) in
     within-is (linear-group g l .is (three p n q))

@@ -12,12 +12,12 @@ use Rattle.integer.proofs.Laws.{within-≤, within-is, cancel-times}
 use Rattle.integer.proofs.SumLaws.{sum--, sum-times, sum-within}
 use Rattle.integer.proofs.HalfUnit.{nearest-near}
 use Rattle.setting.specs.declared.Setting.{Setting}
-use Rattle.setting.specs.Values.{endOf, above, below, factor, startable}
+use Rattle.setting.specs.Values.{endOf, factorTop, factorUnder, factor, startable}
 use Rattle.setting.proofs.LimitLaws.{startable-is}
 use Rattle.matching.specs.Matching.{Three, sum3}
 use Rattle.matching.specs.Sets.{System, sysA, sysB, sysC, turned, seen, phases, filtered, matchedAt}
 use Rattle.matching.specs.Bank.{NearIdeal, Healthy, InReach, total, TotalBound, MatchedBound}
-use Rattle.matching.specs.Sized.{Scaled}
+use Rattle.matching.specs.MatchingInput.{MatchedInput}
 use Rattle.matching.proofs.OneEnd.{one-size, one-end}
 
 -- what holds of each phase, as the phase sees the three, holds of the three that a system sees
@@ -44,7 +44,7 @@ sum-close f w n b h e =
 
 module _ (v : Setting) (start : T (startable v)) (xs : List ℤ) (reach : InReach v xs) where
   -- an end in use, as a system sees it
-  pub scaled : (z : ℕ) → z < v .ends → (l : System) → Scaled (factor v z) (endOf v z .group) (seen l (phases xs z))
+  pub scaled : (z : ℕ) → z < v .ends → (l : System) → MatchedInput (factor v z) (endOf v z .group) (seen l (phases xs z))
   scaled z h l =
       let ok = startable-is v start in
       let r = around (λ x w. (x .p) within 32000) (phases xs z) (phases xs z) (reach z h) l in
@@ -55,10 +55,10 @@ module _ (v : Setting) (start : T (startable v)) (xs : List ℤ) (reach : InReac
   end-bound bank z h l =
       let e = endOf v z in
       let f = filtered e in
-      let some : 0 < below v = omega (arith, startable-is v start .power .least) in
-      let near = around (λ x u. NearIdeal (e .group) f (above e) (below v) u (bank .common z) (x .p)) (phases xs z) (bank .w z) (bank .near z h) l in
-      one-end (scaled z h l) f (above e) (below v) (seen l (bank .w z)) (bank .common z) some
-      (nearest-near (pos (65536 * above e)) (below v) some)
+      let some : 0 < factorUnder v = omega (arith, startable-is v start .power .least) in
+      let near = around (λ x u. NearIdeal (e .group) f (factorTop e) (factorUnder v) u (bank .common z) (x .p)) (phases xs z) (bank .w z) (bank .near z h) l in
+      one-end (scaled z h l) f (factorTop e) (factorUnder v) (seen l (bank .w z)) (bank .common z) some
+      (nearest-near (pos (65536 * factorTop e)) (factorUnder v) some)
       (seen-sum (bank .w z) l ⇒ bank .over-limbs z h ⇒ simp ints (omega arith))
       (λ t. bank .unfiltered z h t ⇒ simp ints (omega arith))
       (near .0)

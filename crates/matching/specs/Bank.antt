@@ -9,7 +9,7 @@ use Rattle.integer.specs.Within.{_within_}
 use Rattle.integer.specs.Nearest.{Near}
 use Rattle.integer.specs.Sum.{sum}
 use Rattle.setting.specs.declared.Setting.{Setting}
-use Rattle.setting.specs.Values.{endOf, above, below, startable}
+use Rattle.setting.specs.Values.{endOf, factorTop, factorUnder, startable}
 use Rattle.matching.specs.Matching.{Three, Quotient, operation, even, sum3}
 use Rattle.matching.specs.Sets.{System, seen, phases, filtered, matchedAt}
 
@@ -38,7 +38,7 @@ pub record Healthy (v : Setting) (xs : List ℤ) : Type 0 where
   pub unfiltered : (z : ℕ) → z < v .ends → filtered (endOf v z) ≡ false → common z ≡ pos 0
   -- each sample of an end in use lies within 1/2 of its ideal
   pub near : (z : ℕ) → z < v .ends → (l : System) →
-      NearIdeal (endOf v z .group) (filtered (endOf v z)) (above (endOf v z)) (below v) (seen l (w z)) (common z) (seen l (phases xs z) .p)
+      NearIdeal (endOf v z .group) (filtered (endOf v z)) (factorTop (endOf v z)) (factorUnder v) (seen l (w z)) (common z) (seen l (phases xs z) .p)
   -- others are zero
   pub others : (z : ℕ) → v .ends ≤ z → z < 4 → (l : System) → seen l (phases xs z) .p ≡ pos 0
 

@@ -1,5 +1,5 @@
 pub mod Matching
 pub mod Sets
 pub mod Bank
-pub mod Sized
+pub mod MatchingInput
 pub mod Numbers

@@ -2,7 +2,7 @@
 -- crate `measuring`.
 use mathlib.Core.Path.{_≡_, refl}
 use mathlib.Core.Bool.{Bool, true, false}
-use mathlib.Core.List.{List, [], _∷_}
+use mathlib.Core.List.{List, [], _∷_, map}
 use Prim.Native.Nat.{ℕ}
 use lib.IntN.{ℤ, pos, negℤ}
 use Rattle.integer.specs.Nearest.{floor, nearest}
@@ -16,21 +16,9 @@ neg n = negℤ (pos n)
 trio : (K g : ℕ) (filter : Bool) → Three → Three
 trio K g f x = three (matched (pos K) g f (seen sysA x)) (matched (pos K) g f (seen sysB x)) (matched (pos K) g f (seen sysC x))
 
--- A row: what the definitions give, and the numbers to meet.
-record Row : Type 0 where
-  given : Three
-  asked : Three
-
-abbrev row : Three → Three → Row
-row a b = record { given = a; asked = b }
-
-allGiven : List Row → List Three
-allGiven [] = []
-allGiven (r ∷ rs) = r .given ∷ allGiven rs
-
-allAsked : List Row → List Three
-allAsked [] = []
-allAsked (r ∷ rs) = r .asked ∷ allAsked rs
+-- what the definitions give, and the numbers to meet
+abbrev Worked : Type 0
+Worked = Three × Three
 
 -- ---- source 001, 2.2: "Mathematical operations on the low-voltage side", the table for even and the table for odd vector group characteristics
 
@@ -39,15 +27,15 @@ abbrev samples : Three
 samples = three (pos 1000) (pos 250) (neg 400)
 
 -- columns "without" and "with zero-sequence filtering"
-abbrev noFilter : (g : ℕ) (a b c : ℤ) → Row
-noFilter g a b c = row (trio 65536 g false samples) (three a b c)
+abbrev noFilter : (g : ℕ) (a b c : ℤ) → Worked
+noFilter g a b c = ((trio 65536 g false samples), (three a b c))
 
-abbrev withFilter : (g : ℕ) (a b c : ℤ) → Row
-withFilter g a b c = row (trio 65536 g true samples) (three a b c)
+abbrev withFilter : (g : ℕ) (a b c : ℤ) → Worked
+withFilter g a b c = ((trio 65536 g true samples), (three a b c))
 
 -- The numbers to meet were worked out from those two tables alone, with 780/1351 for 1/√3. The last row, at twice the factor, has other numbers
 -- where p − z0 is rounded before K.
-groups : List Row
+groups : List Worked
 groups =
     noFilter 0 (pos 1000) (pos 250) (neg 400)
     ∷ noFilter 1 (pos 716) (pos 659) (neg 525)
@@ -73,9 +61,9 @@ groups =
     ∷ withFilter 9 (pos 375) (neg 808) (pos 433)
     ∷ withFilter 10 (pos 683) (neg 717) (pos 33)
     ∷ withFilter 11 (pos 808) (neg 433) (neg 375)
-    ∷ row (trio 131072 0 true samples) (three (pos 1433) (neg 67) (neg 1367))
+    ∷ ((trio 131072 0 true samples), (three (pos 1433) (neg 67) (neg 1367)))
     ∷ []
 
-groups-met : allGiven groups ≡ allAsked groups
-unfolding groups allGiven allAsked trio seen matched operated operation nearest floor
+groups-met : map (λ r. r .0) groups ≡ map (λ r. r .1) groups
+unfolding groups trio seen matched operated operation nearest floor
 groups-met = refl

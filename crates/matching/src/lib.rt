@@ -4,7 +4,7 @@ ghost use mathlib.Core.Path.{_≡_};
 ghost use Prim.Native.Nat.{_<_};
 ghost use Rattle.matching.specs.Matching.{three, even, operation as operationOf, operated as operatedOf, matched as matchedOf};
 ghost use Rattle.matching.specs.Sets.{trioOf, trioAt, numbers as numbersOf};
-ghost use Rattle.matching.specs.Sized.{Small, Sampled, Scaled, Accepted, parts};
+ghost use Rattle.matching.specs.MatchingInput.{OperationInput, OperatedInput, MatchedInput, SetInput, parts};
 ghost use Rattle.matching.specs.Bank.{TotalBound, MatchedBound};
 use setting::End;
 use setting::Setting;
@@ -18,7 +18,7 @@ pub struct Trio {
 
 // The group operation T(g) of the own phase, the next and the one before.
 fn operation(g: u8, p: i64, n: i64, q: i64) -> i64
-    requires { ⌜ Small p n q ⌝ }
+    requires { ⌜ OperationInput p n q ⌝ }
     ensures { λ r. ⌜ r ≡ operationOf g p n q ⌝ }
 {
     match g {
@@ -41,7 +41,7 @@ fn operation(g: u8, p: i64, n: i64, q: i64) -> i64
 // What K/65,536 multiplies, in parts of 4053 = 3·1351, so that every case has the same divisor. s is
 // 3·z0. T(g) of p − z0, n − z0, q − z0 is T(g) of p, n, q less T(g) of z0, z0, z0.
 fn operated(g: u8, filter: bool, p: i64, n: i64, q: i64) -> i64
-    requires { ⌜ Sampled g (three p n q) ⌝ }
+    requires { ⌜ OperatedInput g (three p n q) ⌝ }
     ensures { λ r. ⌜ r ≡ parts (operatedOf (even g) filter g (three p n q)) ⌝ }
 {
     let s = p + n + q;
@@ -62,7 +62,7 @@ fn operated(g: u8, filter: bool, p: i64, n: i64, q: i64) -> i64
 
 // The matched number of a system: K/65,536 times that, to the nearest, rounded once.
 fn matched(k: i64, g: u8, filter: bool, p: i64, n: i64, q: i64) -> i32
-    requires { ⌜ Scaled k g (three p n q) ⌝ }
+    requires { ⌜ MatchedInput k g (three p n q) ⌝ }
     ensures { λ r. ⌜ r ≡ matchedOf k g filter (three p n q) ⌝ }
 {
     integer::nearest(k * operated(g, filter, p, n, q), 65536 * 4053) as i32
@@ -70,7 +70,7 @@ fn matched(k: i64, g: u8, filter: bool, p: i64, n: i64, q: i64) -> i32
 
 // The three matched numbers of an end.
 fn matched_end(k: i64, e: End, a: i16, b: i16, c: i16) -> Trio
-    requires { ⌜ Scaled k (e .group) (three a b c) ⌝ }
+    requires { ⌜ MatchedInput k (e .group) (three a b c) ⌝ }
     ensures { λ r. ⌜ r ≡ trioOf k e (three a b c) ⌝ }
 {
     let g = e.group;
@@ -87,7 +87,7 @@ fn matched_end(k: i64, e: End, a: i16, b: i16, c: i16) -> Trio
 
 // Those of end z in a set, zero where the end is not in use.
 fn matched_at(v: Setting, ks: [i64; 4], z: u8, set: &[i16]) -> Trio
-    requires { ⌜ Accepted v ks (now set) × (z < 4) ⌝ }
+    requires { ⌜ SetInput v ks (now set) × (z < 4) ⌝ }
     ensures { λ r. ⌜ r ≡ trioAt v (now (set .entry)) z ⌝ }
 {
     if z < v.ends {
@@ -106,7 +106,7 @@ fn matched_at(v: Setting, ks: [i64; 4], z: u8, set: &[i16]) -> Trio
 
 // The twelve matched numbers of a set.
 pub fn numbers(v: Setting, ks: [i64; 4], set: &[i16]) -> [i32; 12]
-    requires { ⌜ Accepted v ks (now set) ⌝ }
+    requires { ⌜ SetInput v ks (now set) ⌝ }
     ensures { λ r. ⌜ r ≡ numbersOf v (now (set .entry)) ⌝ }
 {
     let z0 = matched_at(v, ks, 0, set);

@@ -5,12 +5,12 @@ use Prim.Native.Nat.{ℕ}
 use native.Mathlib.Omega.{arith}
 use lib.IntN.{ℤ, pos}
 use Rattle.integer.specs.Within.{_within_}
-use Rattle.integer.specs.Lists.{upTo}
-use Rattle.integer.proofs.Places.{length-upTo}
+use Rattle.lists.specs.Lists.{upTo}
+use Rattle.lists.proofs.Places.{length-upTo}
 use Rattle.amplitude.specs.Amplitude.{amplitude, inOrder}
 use Rattle.amplitude.specs.CycleInput.{CycleInput}
 use Rattle.amplitude.proofs.Same.{amplitude-same}
-use Rattle.integer.proofs.Fill.{place, each-place}
+use Rattle.lists.proofs.Fill.{place, each-place}
 
 module _ {us : List ℤ} (f : ℕ → ℤ) (e : us ≡ upTo 12 f) where
   pub sized : ((k : ℕ) → f k within 3200000) → CycleInput us

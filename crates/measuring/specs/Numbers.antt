@@ -9,7 +9,7 @@ use lib.IntN.{ℤ, pos, negsuc, negℤ}
 use Rattle.integer.specs.Nearest.{nearest, floor}
 use Rattle.integer.specs.Root.{rootBy}
 use Rattle.integer.specs.Sum.{sum}
-use Rattle.integer.specs.Lists.{upTo}
+use Rattle.lists.specs.Lists.{upTo}
 use Rattle.refusal.specs.Refusals.{byOutcome, firstRefusal}
 use Rattle.setting.specs.Values.{factor, factorHigh, factorsLow, valueRows, startRows}
 use Rattle.setting.specs.Worked.{rated, twoEnds, plain}
@@ -20,8 +20,8 @@ use Rattle.characteristic.specs.Characteristic.{starts}
 use Rattle.measuring.specs.Measuring.{differential, second, fifth}
 
 -- A row: what the definitions give, and the number to meet.
-abbrev Row : Type 0
-Row = ℤ × ℤ
+abbrev Worked : Type 0
+Worked = ℤ × ℤ
 
 abbrev neg : ℕ → ℤ
 neg n = negℤ (pos n)
@@ -36,7 +36,7 @@ factorOf v i s = factor (twoEnds s (rated v i) (rated v i)) 0
 abbrev refusalOf : (current0 current1 : ℕ) → ℤ
 refusalOf i j = byOutcome (firstRefusal (startRows (twoEnds 1351 (rated 780 i) (rated 780 j)))) (λ n. pos n) (λ done. pos 0)
 
-settings : List Row
+settings : List Worked
 settings =
     (factorOf 780 1000 1351, pos 65536)
     ∷ (factorOf 780 16000 1351, pos 1048576)
@@ -50,11 +50,11 @@ settings =
 
 -- ---- the matched numbers of systems 1, 2, 3, for the samples x of A, B, C
 
-abbrev trio : (K g : ℕ) (filter : Bool) → Three → (a b c : ℤ) → List Row
+abbrev trio : (K g : ℕ) (filter : Bool) → Three → (a b c : ℤ) → List Worked
 trio K g f x a b c =
     (matched (pos K) g f (seen sysA x), a) ∷ (matched (pos K) g f (seen sysB x), b) ∷ (matched (pos K) g f (seen sysC x), c) ∷ []
 
-matchings : List Row
+matchings : List Worked
 matchings =
     trio 32768 0 false (three (pos 1) (pos 0) (pos 0)) (pos 1) (pos 0) (pos 0)
     ++ trio 32768 0 false (three (neg 1) (pos 0) (pos 0)) (pos 0) (pos 0) (pos 0)
@@ -79,7 +79,7 @@ window u = upTo 144 (λ i. cond (eqb (i % 12) 0) (u (i / 12)) (pos 0))
 starting : (R D : ℕ) → ℤ
 starting R D = cond (starts plain D R) (pos 1) (pos 0)
 
-measurings : List Row
+measurings : List Worked
 measurings =
     (pos (differential plain (window square) sysA), pos 128)
     ∷ (pos (second plain (window square) sysA), pos 0)
@@ -95,7 +95,7 @@ measurings =
 
 -- ---- the table
 
-pub table : List Row
+pub table : List Worked
 table = settings ++ (matchings ++ measurings)
 
 pub table-met : map (λ r. r .0) table ≡ map (λ r. r .1) table

@@ -32,7 +32,7 @@ pub record SumInput (win : List ℤ) (E k y : ℕ) : Type 0 where
 -- a window and a setting whose third section starts past its basic threshold
 pub record Measurable (v : Setting) (win : List ℤ) : Type 0 where
   pub ends : Ends (v .ends)
-  pub sections : v .thresholds .basic ≤ 2 * v .thresholds .third
+  pub sections : v .thresholds .basic ≤ 2 * v .thresholds .knee
   pub sized : WindowInput win
 
 -- and one of the systems

@@ -5,7 +5,7 @@ ghost use mathlib.Core.Bool.{_&&_, _||_};
 ghost use Prim.Native.Nat.{_+_, _*_, _≤_};
 ghost use lib.IntN.{pos};
 ghost use lib.ListN.{getD};
-ghost use Rattle.integer.specs.Lists.{upTo};
+ghost use Rattle.lists.specs.Lists.{upTo};
 ghost use Rattle.matching.specs.Sets.{system};
 ghost use Rattle.characteristic.specs.Characteristic.{starts as startsOf};
 ghost use Rattle.measuring.specs.Window.{series as seriesOf, sums as sumsOf, difference as differenceOf};
@@ -155,7 +155,7 @@ fn common(on: bool, a: bool, b: bool, c: bool) -> bool
 
 // What is measured of a system, from its currents, whether it has harmonics, and whether all are blocked.
 fn system_reading(v: Setting, c: Currents, own: bool, any: bool) -> Reading
-    requires { ⌜ v .thresholds .basic ≤ 2 * v .thresholds .third ⌝ }
+    requires { ⌜ v .thresholds .basic ≤ 2 * v .thresholds .knee ⌝ }
     ensures { λ r. ⌜ r ≡ record { d = c .d; r = c .r; h2 = c .h2; h5 = c .h5; start = startsOf v (c .d) (c .r); blocked = own || any } ⌝ }
 {
     Reading {

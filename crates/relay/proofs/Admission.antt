@@ -4,8 +4,8 @@ use mathlib.Core.Bool.{Bool, true, false}
 use Prim.Native.Nat.{ℕ}
 use lib.Dec.{T}
 use lib.ListN.{getD, take}
-use Rattle.integer.specs.Tests.{Each}
-use Rattle.integer.proofs.TestLaws.{hold-at, hold-of, hold-not, hold-last, is-true}
+use Rattle.lists.specs.Tests.{Each}
+use Rattle.lists.proofs.TestLaws.{hold-at, hold-of, hold-not, hold-last, is-true}
 use Rattle.relay.specs.declared.Relay.{Relay}
 use Rattle.relay.specs.Record.{admissions, admissible}
 

@@ -6,15 +6,16 @@ use mathlib.Core.List.{List}
 use Prim.Native.Nat.{ℕ}
 use lib.Dec.{T, eqb}
 use lib.IntN.{ℤ}
-use Rattle.integer.specs.Tests.{Each, _&_}
+use Rattle.lists.specs.Tests.{Each, _&_}
 use Rattle.refusal.specs.Refusals.{Outcome, gives, declines}
 use Rattle.refusal.proofs.Stops.{Passed, Stops, later, Stopped, stops-declines, passed-gives, none-passed, stopped}
 use Rattle.setting.specs.declared.Setting.{Setting}
-use Rattle.record.specs.declared.Window.{Window}
+use Rattle.state.specs.declared.Window.{Window}
 use Rattle.relay.specs.declared.Relay.{Relay}
 use Rattle.relay.specs.declared.Sampled.{Sampled}
 use Rattle.relay.specs.Record.{admissible}
-use Rattle.relay.specs.Calls.{setRows, accepted, sampleRows, windowAfter, replyNow, relayNow, sampleReply, Gives, Samples, resetRows, cleared, resetReply, resetRelay}
+use Rattle.relay.specs.Calls.{setRows, accepted, sampleRows, windowAfter, replyNow, relayNow, sampleReply, Gives, Samples}
+use Rattle.relay.specs.Calls.{resetRows, cleared, resetReply, resetRelay}
 
 -- ---- any record
 

@@ -4,7 +4,7 @@
 use mathlib.Core.Path.{refl}
 use mathlib.Core.List.{List, [], _∷_, foldl}
 use lib.Dec.{T}
-use Rattle.integer.specs.Tests.{Each, none, _&_}
+use Rattle.lists.specs.Tests.{Each, none, _&_}
 use Rattle.setting.specs.declared.Setting.{Setting}
 use Rattle.setting.specs.Values.{startable}
 use Rattle.relay.specs.declared.Relay.{Relay}

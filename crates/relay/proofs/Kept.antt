@@ -8,15 +8,15 @@ use native.Mathlib.Omega.{arith}
 use lib.Dec.{T, le→leb}
 use lib.IntN.{ℤ}
 use lib.ListN.{getD}
-use Rattle.integer.specs.Tests.{hold, none, _&_}
-use Rattle.integer.proofs.TestLaws.{is-true}
+use Rattle.lists.specs.Tests.{hold, none, _&_}
+use Rattle.lists.proofs.TestLaws.{is-true}
 use Rattle.refusal.specs.Refusals.{gives}
 use Rattle.setting.specs.declared.Setting.{Setting}
 use Rattle.setting.specs.Values.{startable}
 use Rattle.matching.specs.Sets.{numbers}
-use Rattle.record.specs.Record.{elementOf, perSystem, clear, countersWithin}
-use Rattle.record.proofs.Placed.{sized-test, placed-fill}
-use Rattle.record.proofs.Elements.{counters-test, element-≤}
+use Rattle.state.specs.State.{elementOf, perSystem, clear, countersWithin}
+use Rattle.state.proofs.Placed.{sized-test, windowWith-fill}
+use Rattle.state.proofs.Elements.{counters-test, element-≤}
 use Rattle.relay.specs.declared.Relay.{Relay}
 use Rattle.relay.specs.Record.{fresh, admissions, admissible}
 use Rattle.relay.specs.Calls.{accepted, windowAfter, elementNow, replyNow, relayNow, sampleReply, sampleRelay, resetReply, cleared}
@@ -48,7 +48,7 @@ module _ (r : Relay) (a : admissible r ≡ true) where
       let M = r .setting .confirm in
       admissible-of _
       (admitted r a 0
-      & le→leb _ _ (placed-fill (r .window) (numbers (r .setting) xs))
+      & le→leb _ _ (windowWith-fill (r .window) (numbers (r .setting) xs))
       & sized-test (window-sized r xs a (reach (r .setting) xs t))
       & counters-test M (elementNow r (windowAfter r xs)) (λ l. element-≤ M _ (elementOf (r .trip) l))
       & none)

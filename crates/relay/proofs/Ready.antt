@@ -10,11 +10,11 @@ use borrow.Author.Tests.{ltb-true}
 use lib.IntN.{ℤ, pos, natAbs}
 use lib.ListN.{length}
 use Rattle.integer.specs.Within.{_within_}
-use Rattle.integer.specs.Tests.{Each}
+use Rattle.lists.specs.Tests.{Each}
 use Rattle.integer.proofs.Reading.{ints}
 use Rattle.integer.proofs.Laws.{within-≤}
-use Rattle.integer.proofs.Places.{upTo-each}
-use Rattle.integer.proofs.TestLaws.{not-not, each-get, test-each}
+use Rattle.lists.proofs.Places.{upTo-each}
+use Rattle.lists.proofs.TestLaws.{not-not, each-get, test-each}
 use Rattle.refusal.proofs.Stops.{none-of}
 use Rattle.setting.specs.declared.Setting.{Setting}
 use Rattle.setting.specs.Values.{startable}
@@ -22,10 +22,10 @@ use Rattle.setting.specs.Limits.{Limits, fourFactors}
 use Rattle.setting.proofs.LimitLaws.{startable-is}
 use Rattle.matching.specs.Sets.{System, sysA, sysB, sysC, seen, phases, matchedAt, numbers, system}
 use Rattle.matching.specs.Bank.{InReach, MatchedBound}
-use Rattle.matching.specs.Sized.{Accepted}
+use Rattle.matching.specs.MatchingInput.{SetInput}
 use Rattle.measuring.specs.WindowInput.{Measurable}
-use Rattle.record.specs.declared.Window.{Window}
-use Rattle.record.proofs.Placed.{Sized, zero-sized, numbers-sized, placed-sized}
+use Rattle.state.specs.declared.Window.{Window}
+use Rattle.state.proofs.Placed.{Sized, zero-sized, numbers-sized, windowWith-sized}
 use Rattle.relay.specs.declared.Relay.{Relay}
 use Rattle.relay.specs.Record.{admissible}
 use Rattle.relay.specs.Calls.{inReach, setRows, accepted, windowAfter}
@@ -66,10 +66,10 @@ module _ (r : Relay) (xs : List ℤ) (a : admissible r ≡ true) where
 
   -- the numbers of the window with the set filed
   pub window-sized : InReach (r .setting) xs → Each Sized (windowAfter r xs .values)
-  window-sized h = placed-sized (r .window) (numbers (r .setting) xs) (numbers-sized (admitted r a 2)) (sized-of (r .setting) xs (admitted r a 0) h)
+  window-sized h = windowWith-sized (r .window) (numbers (r .setting) xs) (numbers-sized (admitted r a 2)) (sized-of (r .setting) xs (admitted r a 0) h)
 
   module _ (l : length xs ≡ 12) (i : inReach xs ≡ true) where
-    pub numbers-ready : (ks : List ℤ) → ks ≡ fourFactors (r .setting) → Accepted (r .setting) ks xs
+    pub numbers-ready : (ks : List ℤ) → ks ≡ fourFactors (r .setting) → SetInput (r .setting) ks xs
     numbers-ready ks e = record { sound = admitted r a 0; factors = e; twelve = l; reach = reach-of (r .setting) xs (is-T i) }
 
     pub measure-ready : (w : Window) → w ≡ windowAfter r xs → length (w .values) ≡ 144 → Measurable (r .setting) (w .values)
@@ -77,6 +77,6 @@ module _ (r : Relay) (xs : List ℤ) (a : admissible r ≡ true) where
         let s = startable-is (r .setting) (admitted r a 0) in
         record {
           ends = record { two = s .limits .two; four = s .limits .four };
-          sections = omega (arith, s .basic .most, s .third .least);
+          sections = omega (arith, s .basic .most, s .knee .least);
           sized = record { long = long; small = rw e (each-get (window-sized (reach-of (r .setting) xs (is-T i))) zero-sized) };
         }

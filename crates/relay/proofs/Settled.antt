@@ -5,10 +5,10 @@ use Rattle.refusal.specs.Refusals.{Outcome, gives}
 use Rattle.characteristic.specs.Characteristic.{counts}
 use Rattle.measuring.specs.declared.Readings.{Readings}
 use Rattle.measuring.specs.Measuring.{readingOf, readingsOf}
-use Rattle.record.specs.declared.Element.{Element}
-use Rattle.record.specs.declared.Window.{Window}
+use Rattle.state.specs.declared.Element.{Element}
+use Rattle.state.specs.declared.Window.{Window}
 use Rattle.relay.specs.declared.Relay.{Relay}
-use Rattle.record.specs.Record.{elementAfter}
+use Rattle.state.specs.State.{elementAfter}
 use Rattle.relay.specs.Calls.{Reply, filling, measured, full, replyNow, relayNow}
 
 module _ (r : Relay) (w : Window) where

@@ -6,7 +6,8 @@ use Prim.Native.Nat.{ℕ, _*_}
 use lib.Dec.{leb, eqb}
 use lib.IntN.{ℤ, pos, natAbs}
 use lib.ListN.{length, drop}
-use Rattle.integer.specs.Tests.{each, eqZ, Each}
+use Rattle.lists.specs.Tests.{each, Each}
+use Rattle.integer.specs.Within.{eqZ}
 use Rattle.refusal.specs.Refusals.{numberOf, Outcome, gives, declines, byOutcome, Row, _when_, firstOf, noneApplies, firstRefusal}
 use Rattle.refusal.specs.Refusals as R
 use Rattle.setting.specs.declared.Setting.{Setting}
@@ -15,8 +16,8 @@ use Rattle.setting.specs.Calls.{Wrong}
 use Rattle.setting.specs.Limits.{fourFactors}
 pub use Rattle.setting.specs.Worked.{blank}
 use Rattle.matching.specs.Sets.{System, sysA, sysB, sysC, numbers}
-use Rattle.record.specs.declared.Element.{Element}
-use Rattle.record.specs.declared.Window.{Window}
+use Rattle.state.specs.declared.Element.{Element}
+use Rattle.state.specs.declared.Window.{Window}
 use Rattle.relay.specs.declared.Relay.{Relay}
 use Rattle.relay.specs.declared.Measure.{Measure}
 use Rattle.relay.specs.declared.Answer.{Answer}
@@ -26,7 +27,7 @@ use Rattle.relay.specs.declared.Returned.{Returned}
 use Rattle.characteristic.specs.Characteristic.{counts}
 use Rattle.measuring.specs.WindowInput.{Measurable}
 use Rattle.measuring.specs.Measuring.{differential, start, blocked, readingOf}
-use Rattle.record.specs.Record.{elementOf, perSystem, elementAfter, clear, placed}
+use Rattle.state.specs.State.{elementOf, perSystem, elementAfter, clear, windowWith}
 use Rattle.relay.specs.Record.{fresh, admissible}
 
 -- ---- which sets are accepted
@@ -64,7 +65,7 @@ pub data Reply : Type 0 where
 
 -- the window with the set's matched numbers filed
 abbrev pub windowAfter : Relay → List ℤ → Window
-windowAfter r xs = placed (r .window) (numbers (r .setting) xs)
+windowAfter r xs = windowWith (r .window) (numbers (r .setting) xs)
 
 -- it holds twelve
 abbrev pub full : Window → Bool

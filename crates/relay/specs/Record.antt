@@ -4,10 +4,10 @@ use mathlib.Core.List.{List, [], _∷_}
 use lib.Dec.{leb}
 use lib.IntN.{pos}
 use lib.ListN.{replicate}
-use Rattle.integer.specs.Tests.{hold, each}
+use Rattle.lists.specs.Tests.{hold, each}
 use Rattle.setting.specs.declared.Setting.{Setting}
 use Rattle.setting.specs.Values.{startable}
-use Rattle.record.specs.Record.{perSystem, clear, numberWithin, countersWithin}
+use Rattle.state.specs.State.{perSystem, clear, numberWithin, countersWithin}
 use Rattle.relay.specs.declared.Relay.{Relay}
 
 -- ---- a fresh relay: the values of its setting, empty windows, all else zero or clear

@@ -1,75 +1,31 @@
 // The relay's calls: start, sample and reset. Sample and reset take the record by value and hand it back beside the answer.
 
 ghost use mathlib.Core.Path.{_≡_};
-ghost use mathlib.Core.Bool.{true, false};
-ghost use Rattle.refusal.specs.Refusals.{gives, declines, byOutcome, outcomeOf, numberOf};
+ghost use mathlib.Core.Bool.{false};
+ghost use Rattle.refusal.specs.Refusals.{gives, declines, numberOf};
 ghost use Rattle.characteristic.specs.Characteristic.{counts as countsOf};
-ghost use Rattle.record.specs.Record.{elementAfter};
-ghost use Rattle.relay.specs.Calls.{blank as blankOf, full, Full, replyNow, relayNow, Gives, InHand, Samples, Resets, Starts};
+ghost use Rattle.state.specs.State.{elementAfter};
+ghost use Rattle.relay.specs.Calls.{full, Full, replyNow, relayNow, Gives, InHand, Samples, Resets, Starts};
 use crate::Answer;
 use crate::Measure;
 use crate::Relay;
 use crate::Returned;
 use crate::Sampled;
-use crate::records;
-use crate::sets;
+use crate::accepting;
+use crate::starting;
 use measuring::Reading;
-use record::Element;
-use record::Trip;
-use record::Window;
 use refusal::Refusal;
 use refusal::Verdict;
-use setting::End;
 use setting::Setting;
-use setting::Thresholds;
-
-// Setting values that are all zero, of which no relay can be started.
-pub fn blank() -> Setting
-    ensures { λ r. ⌜ r ≡ blankOf ⌝ }
-{
-    let e = End {
-        voltage: 0,
-        current: 0,
-        group: 0,
-        filter: 0,
-    };
-    let t = Thresholds {
-        basic: 0,
-        high: 0,
-        slope1: 0,
-        slope2: 0,
-        third: 0,
-        second: 0,
-        fifth: 0,
-    };
-    Setting {
-        ends: 0,
-        flags: 0,
-        confirm: 0,
-        power: 0,
-        e0: e,
-        e1: e,
-        e2: e,
-        e3: e,
-        thresholds: t,
-    }
-}
-
-// The values that the record of a start holds: blank ones on a refusal.
-fn started_on(v: Setting, verdict: Verdict) -> Setting
-    ensures { λ r. ⌜ r ≡ byOutcome (outcomeOf verdict) (λ _. blankOf) (λ _. v) ⌝ }
-{
-    match verdict {
-        Verdict::Accepted => v,
-        Verdict::Refused(_) => blank(),
-    }
-}
+use state::Element;
+use state::Trip;
+use state::Window;
 
 // The counter and the latch of a system after it was measured.
 fn element_now(v: Setting, m: Reading, e: Element) -> Element
     ensures { λ r. ⌜ r ≡ elementAfter (v .confirm) (countsOf v (m .d) (m .start) (m .blocked)) e ⌝ }
 {
-    record::element_after(
+    state::element_after(
         v.confirm,
         characteristic::counts(v, m.d, m.start, m.blocked),
         e,
@@ -84,9 +40,9 @@ fn filling(r: Relay, w: Window) -> Sampled
     let v = r.setting;
     let t = r.trip;
     let trip = Trip {
-        a: record::element_after(v.confirm, false, t.a),
-        b: record::element_after(v.confirm, false, t.b),
-        c: record::element_after(v.confirm, false, t.c),
+        a: state::element_after(v.confirm, false, t.a),
+        b: state::element_after(v.confirm, false, t.b),
+        c: state::element_after(v.confirm, false, t.c),
     };
     let mut relay = r;
     relay.window = w;
@@ -152,15 +108,15 @@ pub fn sample_admitted(r: Relay, factors: [i64; 4], set: &[i16]) -> Sampled
     if set.len() != 12 {
         return refused(r, Refusal::Count);
     }
-    if !sets::in_reach(set) {
+    if !accepting::in_reach(set) {
         return refused(r, Refusal::Reach);
     }
     let v = r.setting;
-    if !sets::unused_zero(v.ends, set) {
+    if !accepting::unused_zero(v.ends, set) {
         return refused(r, Refusal::Unused);
     }
     let old = r.window;
-    let w = record::place(old, matching::numbers(v, factors, set));
+    let w = state::place(old, matching::numbers(v, factors, set));
     if w.fill < 12 {
         return filling(r, w);
     }
@@ -175,7 +131,7 @@ impl Relay {
         let verdict = setting::judging::start_verdict(v);
         Returned {
             verdict: verdict,
-            relay: records::fresh(started_on(v, verdict)),
+            relay: starting::fresh(starting::started_on(v, verdict)),
         }
     }
 
@@ -183,7 +139,7 @@ impl Relay {
     pub fn sample(self, set: &[i16]) -> Sampled
         ensures { λ s. ⌜ Samples self (now (set .entry)) s ⌝ }
     {
-        if !records::admissible(self) {
+        if !accepting::admissible(self) {
             return refused(self, Refusal::Record);
         }
         let v = self.setting;
@@ -194,7 +150,7 @@ impl Relay {
     pub fn reset(self) -> Returned
         ensures { λ s. ⌜ Resets self s ⌝ }
     {
-        if !records::admissible(self) {
+        if !accepting::admissible(self) {
             return Returned {
                 verdict: Verdict::Refused(Refusal::Record),
                 relay: self,

@@ -1,15 +1,15 @@
 // The relay: the record, and its start, sample and reset calls.
 
+pub mod accepting;
 pub mod calls;
-pub mod records;
-pub mod sets;
+pub mod starting;
 
 use measuring::Reading;
-use record::Trip;
-use record::Window;
 use refusal::Refusal;
 use refusal::Verdict;
 use setting::Setting;
+use state::Trip;
+use state::Window;
 
 // The relay record.
 pub struct Relay {

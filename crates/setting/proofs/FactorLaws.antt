@@ -1,34 +1,25 @@
--- The factors: each is at least 0, and the four factors pass the limits' tests as those of the ends in use do. Tests of lists, by their places.
+-- The factors: each is at least 0, and the four factors pass the limits' tests as those of the ends in use do.
 use mathlib.Core.Path.{_≡_, refl, sym, ap}
 use mathlib.Core.Bool.{Bool, true, false, cond, not, _&&_}
 use mathlib.Core.List.{List, [], _∷_}
 use Prim.Native.Nat.{ℕ, zero, suc, _+_, _*_, _≤_, _<_}
 use native.Mathlib.Nat.{zero-add}
 use native.Mathlib.Omega.{arith}
-use lib.Dec.{T, ltb}
+use lib.Dec.{ltb}
 use lib.ListN.{length, getD, drop}
 use lib.IntN.{ℤ, pos, negsuc}
 use lib.Signed.{leZ, _≤ℤ_}
 use borrow.Author.Tests.{lt-ltb}
 use Rattle.integer.specs.Nearest.{nearest}
-use Rattle.integer.specs.Lists.{upTo}
-use Rattle.integer.specs.Tests.{each}
+use Rattle.lists.specs.Lists.{upTo}
+use Rattle.lists.specs.Tests.{each}
 use Rattle.integer.proofs.Reading.{ints, _⇒_}
 use Rattle.integer.proofs.Laws.{cancel-<}
 use Rattle.integer.proofs.HalfUnit.{nearest-near}
-use Rattle.integer.proofs.Places.{drop-next}
-use Rattle.integer.proofs.TestLaws.{split}
+use Rattle.lists.proofs.Places.{drop-next}
 use Rattle.setting.specs.declared.Setting.{Setting}
 use Rattle.setting.specs.Values.{factor, factors, factorHigh, factorsLow, count}
 use Rattle.setting.specs.Limits.{Limits, fourFactors}
-
--- ---- tests of a list by its places
-
-pub each-upTo {ℓ} : {A : Type ℓ} (t : A → Bool) (n : ℕ) (f : ℕ → A) → T (each t (upTo n f)) → (k : ℕ) → k < n → T (t (f k))
-unfolding upTo
-each-upTo t zero f h k l = absurd (omega arith)
-each-upTo t (suc n) f h zero l = split (t (f zero)) (each t (upTo n (λ i. f (suc i)))) h .0
-each-upTo t (suc n) f h (suc k) l = each-upTo t n (λ i. f (suc i)) (split (t (f zero)) (each t (upTo n (λ i. f (suc i)))) h .1) k (omega arith)
 
 -- ---- how many factors are at least so large
 

@@ -5,8 +5,8 @@ use mathlib.Core.List.{List, [], _∷_, _++_, List·Memᴰ, List·Memᴰ·head, 
 use Prim.Native.Nat.{ℕ, _+_, _≤_, _<_}
 use lib.Dec.{leb}
 use lib.ListN.{length, getD, drop, drop-of-length-le}
-use Rattle.integer.proofs.Places.{drop-next}
-use Rattle.integer.proofs.TestLaws.{each-++}
+use Rattle.lists.proofs.Places.{drop-next}
+use Rattle.lists.proofs.TestLaws.{each-++}
 use Rattle.setting.specs.declared.Fault.{Fault}
 use Rattle.setting.specs.declared.Fault.the-variants.{Nowhere, At}
 use Rattle.setting.specs.declared.Field.{Field}

@@ -1,6 +1,6 @@
 -- From tests to facts: the limits of a setting whose fields are within their rules, and what is known of values that a block may hold.
 use mathlib.Core.Path.{_≡_, refl, sym, _∙_}
-use mathlib.Core.Bool.{Bool, true, false, cond, not, true≢false}
+use mathlib.Core.Bool.{Bool, true, false, cond, true≢false}
 use Prim.Native.Nat.{ℕ, zero, suc, _≤_, _<_}
 use native.Mathlib.Omega.{arith}
 use lib.Dec.{T, leb, eqb, leb→le, eqb→eq}
@@ -8,16 +8,16 @@ use lib.ListN.{getD}
 use lib.IntN.{ℤ, pos}
 use lib.Signed.{leZ, leZ-yes, _≤ℤ_}
 use Rattle.integer.specs.Within.{_within_}
-use Rattle.integer.specs.Tests.{each}
+use Rattle.lists.specs.Tests.{each}
 use Rattle.integer.proofs.Reading.{ints}
-use Rattle.integer.proofs.TestLaws.{split, each-get, test-each, not-not}
+use Rattle.lists.proofs.TestLaws.{split, each-get, test-each, not-not, each-upTo}
 use Rattle.refusal.proofs.Stops.{none-of}
 use Rattle.setting.specs.declared.End.{End}
 use Rattle.setting.specs.declared.Field.{Field}
 use Rattle.setting.specs.declared.Setting.{Setting}
 use Rattle.setting.specs.Values.{between, right, endOf, fields, allRight, factor, factors, factorHigh, valueRows, storeRows, storable, startable}
 use Rattle.setting.specs.Limits.{Limits}
-use Rattle.setting.proofs.FactorLaws.{each-upTo, factor-nonneg}
+use Rattle.setting.proofs.FactorLaws.{factor-nonneg}
 
 -- ---- a field within its rule
 
@@ -85,7 +85,7 @@ pub record Storable (v : Setting) : Type 0 where
   pub high : Ranged 2500 30000 (v .thresholds .high)
   pub slope1 : Ranged 10 150 (v .thresholds .slope1)
   pub slope2 : Ranged 10 150 (v .thresholds .slope2)
-  pub third : Ranged 1500 10000 (v .thresholds .third)
+  pub knee : Ranged 1500 10000 (v .thresholds .knee)
   pub second : Ranged 10 50 (v .thresholds .second)
   pub fifth : Ranged 10 80 (v .thresholds .fifth)
   pub factor-within : (z : ℕ) → z < v .ends → factor v z within 1048576
@@ -108,7 +108,7 @@ storable-is v h =
       high = ranged (field-at v f 20);
       slope1 = ranged (field-at v f 21);
       slope2 = ranged (field-at v f 22);
-      third = ranged (field-at v f 23);
+      knee = ranged (field-at v f 23);
       second = ranged (field-at v f 24);
       fifth = ranged (field-at v f 25);
       factor-within = λ z u. small (factor v z) (factor-nonneg v z (power-ranged v f .least)) (leZ-yes (low z u));

@@ -3,18 +3,18 @@ use mathlib.Core.Path.{_≡_}
 use mathlib.Core.Bool.{false}
 use mathlib.Core.List.{List, List·Memᴰ}
 use Prim.Native.Nat.{ℕ}
-use Rattle.integer.specs.Tests.{Each}
+use Rattle.lists.specs.Tests.{Each}
 use Rattle.refusal.specs.declared.Verdict.{Verdict}
 use Rattle.refusal.specs.Refusals.{Row, firstRefusal, outcomeOf, offsets}
 use Rattle.setting.specs.declared.Field.{Field}
 use Rattle.setting.specs.declared.Setting.{Setting}
-use Rattle.setting.specs.Values.{right, fields, storeRows, startRows}
+use Rattle.setting.specs.Values.{offsetOf, right, fields, storeRows, startRows}
 
 -- The offset with refusal 5, which the rules leave free: it is the first byte of some field or zero byte outside its rule.
 pub record Wrong (fs : List Field) (at : ℕ) : Type 0 where
   pub field : Field
   pub of : List·Memᴰ field fs
-  pub offset : field .0 ≡ at
+  pub offset : offsetOf field ≡ at
   pub wrong : right field ≡ false
 
 -- what judging by rows of the table gives, where fs are the fields of refusal 5

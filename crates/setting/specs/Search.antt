@@ -8,13 +8,13 @@ use Rattle.setting.specs.declared.Setting.{Setting}
 use Rattle.setting.specs.declared.Fault.{Fault}
 use Rattle.setting.specs.declared.Fault.the-variants.{Nowhere, At}
 use Rattle.refusal.specs.declared.Verdict.{Verdict}
-use Rattle.setting.specs.Values.{right, fields, valueRows}
+use Rattle.setting.specs.Values.{offsetOf, right, fields, valueRows}
 use Rattle.setting.specs.Calls.{Judged}
 
 -- the first field outside its rule
 abbrev pub firstWrong : List Field → Fault
 firstWrong [] = Nowhere
-firstWrong (f ∷ fs) = cond (right f) (firstWrong fs) (At (f .0))
+firstWrong (f ∷ fs) = cond (right f) (firstWrong fs) (At (offsetOf f))
 
 -- the fault with the lower offset
 abbrev pub sooner : Fault → Fault → Fault

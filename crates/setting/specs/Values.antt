@@ -7,8 +7,8 @@ use lib.ListN.{getD}
 use lib.IntN.{ℤ, pos}
 use lib.Signed.{leZ}
 use Rattle.integer.specs.Nearest.{nearest}
-use Rattle.integer.specs.Lists.{upTo}
-use Rattle.integer.specs.Tests.{each}
+use Rattle.lists.specs.Lists.{upTo}
+use Rattle.lists.specs.Tests.{each}
 use Rattle.refusal.specs.Refusals.{Row, _when_, noneApplies}
 use Rattle.setting.specs.declared.End.{End}
 use Rattle.setting.specs.declared.Field.{Field}
@@ -25,9 +25,24 @@ abbrev pub between : (low high x : ℕ) → Bool
 between low high x = leb low x && leb x high
 
 -- A field is a row: the offset of its first byte, whether it is in use, the least and the most that it may then be, and its value.
+abbrev pub offsetOf : Field → ℕ
+offsetOf f = f .0
+
+abbrev pub inUse : Field → Bool
+inUse f = f .1
+
+abbrev pub leastOf : Field → ℕ
+leastOf f = f .2
+
+abbrev pub mostOf : Field → ℕ
+mostOf f = f .3
+
+abbrev pub valueOf : Field → ℕ
+valueOf f = f .4
+
 -- It is within its rule when its value lies between the two, or, not in use, is zero.
 abbrev pub right : Field → Bool
-right f = cond (f .1) (between (f .2) (f .3) (f .4)) (eqb (f .4) 0)
+right f = cond (inUse f) (between (leastOf f) (mostOf f) (valueOf f)) (eqb (valueOf f) 0)
 
 -- 5: flags, bits 0 to 2; 6: confirm count M, 1 to 24; 8: reference power S, 1 to 50,000
 abbrev pub headFields : Setting → List Field
@@ -49,7 +64,7 @@ tailFields t =
     ∷ (62, true, 2500, 30000, t .high)
     ∷ (64, true, 10, 150, t .slope1)
     ∷ (66, true, 10, 150, t .slope2)
-    ∷ (68, true, 1500, 10000, t .third)
+    ∷ (68, true, 1500, 10000, t .knee)
     ∷ (70, true, 10, 50, t .second)
     ∷ (72, true, 10, 80, t .fifth)
     ∷ []
@@ -63,15 +78,15 @@ allRight fs = each right fs
 -- ---- the factors, and their limits
 
 -- The exact factor of an end is k = 1351·V·I / (780·1000·S): its two terms.
-abbrev pub above : End → ℕ
-above e = 1351 * (e .voltage * e .current)
+abbrev pub factorTop : End → ℕ
+factorTop e = 1351 * (e .voltage * e .current)
 
-abbrev pub below : Setting → ℕ
-below v = 780 * 1000 * v .power
+abbrev pub factorUnder : Setting → ℕ
+factorUnder v = 780 * 1000 * v .power
 
 -- K is 65,536·k to the nearest whole number
 unfoldable pub factor : Setting → ℕ → ℤ
-factor v z = nearest (pos (65536 * above (endOf v z))) (below v)
+factor v z = nearest (pos (65536 * factorTop (endOf v z))) (factorUnder v)
 
 -- over the ends in use
 abbrev pub factors : Setting → List ℤ

@@ -23,7 +23,7 @@ blank =
       e1 = unused;
       e2 = unused;
       e3 = unused;
-      thresholds = record { basic = 0; high = 0; slope1 = 0; slope2 = 0; third = 0; second = 0; fifth = 0 };
+      thresholds = record { basic = 0; high = 0; slope1 = 0; slope2 = 0; knee = 0; second = 0; fifth = 0 };
     }
 
 -- two ends, by S, with no blocking, M 1, P 200, H 8,000, m1 30, m2 70, Q 4,000 (01, "Numbers to meet" and its bench run); the percents of the
@@ -39,7 +39,7 @@ twoEnds s a b =
       e1 = b;
       e2 = unused;
       e3 = unused;
-      thresholds = record { basic = 200; high = 8000; slope1 = 30; slope2 = 70; third = 4000; second = 15; fifth = 30 };
+      thresholds = record { basic = 200; high = 8000; slope1 = 30; slope2 = 70; knee = 4000; second = 15; fifth = 30 };
     }
 
 -- with K 65,536 at both ends: the setting of 01's windows, starts and bench run
@@ -58,5 +58,5 @@ factory =
       e1 = record { voltage = 200; current = 1200; group = 5; filter = 0 };
       e2 = unused;
       e3 = unused;
-      thresholds = record { basic = 200; high = 8000; slope1 = 30; slope2 = 70; third = 4000; second = 20; fifth = 35 };
+      thresholds = record { basic = 200; high = 8000; slope1 = 30; slope2 = 70; knee = 4000; second = 20; fifth = 35 };
     }

@@ -5,7 +5,7 @@ ghost use Prim.Native.Nat.{_*_, _<_};
 ghost use lib.IntN.{pos};
 ghost use lib.Signed.{leZ};
 ghost use Rattle.integer.specs.Nearest.{nearest as nearestOf};
-ghost use Rattle.setting.specs.Values.{above, count};
+ghost use Rattle.setting.specs.Values.{factorTop, count};
 ghost use Rattle.setting.specs.Limits.{Rated, Limits, factorOr0, fourFactors};
 use crate::End;
 use crate::Setting;
@@ -14,7 +14,7 @@ use crate::rules;
 // K of an end: 65,536 times 1351·V·I / (780·1000·S), to the nearest.
 pub fn factor(e: End, power: u32) -> i64
     requires { ⌜ Rated e power ⌝ }
-    ensures { λ r. ⌜ r ≡ nearestOf (pos (65536 * above e)) (780 * 1000 * power) ⌝ }
+    ensures { λ r. ⌜ r ≡ nearestOf (pos (65536 * factorTop e)) (780 * 1000 * power) ⌝ }
 {
     let n = 65536 * 1351 * (e.voltage as i64) * (e.current as i64);
     integer::nearest(n, 780000 * (power as u64))

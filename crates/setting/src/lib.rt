@@ -35,7 +35,7 @@ pub struct Thresholds {
     pub high: u16,
     pub slope1: u16,
     pub slope2: u16,
-    pub third: u16,
+    pub knee: u16,
     pub second: u16,
     pub fifth: u16,
 }

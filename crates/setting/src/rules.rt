@@ -72,7 +72,7 @@ fn fields(v: Setting) -> [Field; 26]
         Field(62, true, 2500, 30000, t.high as u32),
         Field(64, true, 10, 150, t.slope1 as u32),
         Field(66, true, 10, 150, t.slope2 as u32),
-        Field(68, true, 1500, 10000, t.third as u32),
+        Field(68, true, 1500, 10000, t.knee as u32),
         Field(70, true, 10, 50, t.second as u32),
         Field(72, true, 10, 80, t.fifth as u32),
     ]

@@ -1,20 +1,21 @@
 -- The layout, both ways. Bytes with the mark and zero bytes are the header of the values that they hold, and then zeros: each number's bytes are those
 -- it was read from. The values that a header holds are those it was made of: each number fits its bytes.
-use mathlib.Core.Path.{_≡_, refl, sym, ap, _∙_}
-use mathlib.Core.Bool.{Bool, true, _&&_}
-use mathlib.Core.List.{List, [], _∷_, _++_, map}
-use Prim.Native.Nat.{ℕ, zero, suc, _+_, _<_, _≤_}
+use mathlib.Core.Path.{_≡_, refl, sym, _∙_}
+use mathlib.Core.Bool.{true}
+use mathlib.Core.List.{List, [], _∷_, _++_}
+use Prim.Native.Nat.{ℕ, _+_, _<_, _≤_}
 use native.Mathlib.Nat.{zero-add, add-zero, add-assoc}
 use native.Mathlib.Omega.{arith}
 use lib.Dec.{T, eqb, eqb→eq}
 use lib.ListN.{length, getD, take, replicate, length-replicate, getD-replicate, List·getD-append}
 use lib.Seq.{getD-append-add}
 use borrow.Author.Tests.{eq-eqb}
-use Rattle.integer.specs.Lists.{upTo}
-use Rattle.integer.specs.Tests.{each, Each, _&_}
-use Rattle.integer.proofs.TestLaws.{split, each-drop, each-get, each-test, test-each}
+use Rattle.lists.specs.Lists.{upTo}
+use Rattle.lists.specs.Tests.{each, Each, _&_}
+use Rattle.lists.proofs.TestLaws.{split, each-drop, each-get, each-test, test-each, each-map}
 use Rattle.block.specs.Bytes.{u16At, u32At, bytes16, bytes32}
-use Rattle.integer.proofs.Places.{getD-upTo, take-upTo, upTo-add, upTo-same, upTo-each}
+use Rattle.lists.proofs.Runs.{upTo-equal}
+use Rattle.lists.proofs.Places.{getD-upTo, take-upTo, upTo-add, upTo-same, upTo-each}
 use Rattle.block.proofs.ByteLaws.{u16-bytes, u32-bytes, bytes-u16, bytes-u32}
 use Rattle.setting.specs.declared.End.{End}
 use Rattle.setting.specs.declared.Setting.{Setting}
@@ -28,10 +29,6 @@ use Rattle.setting_block.specs.Layout.{endAt, settingAt, marked, spareOf
 abbrev pub Zero : List ℕ → ℕ → Type 0
 Zero s at = getD s at 0 ≡ 0
 
-each-map : {A B : Type 0} (t : B → Bool) (f : A → B) (l : List A) → each t (map f l) ≡ each (λ a. t (f a)) l
-each-map t f [] = refl
-each-map t f (a ∷ l) = ap (λ (b : Bool). t (f a) && b) (each-map t f l)
-
 module _ (s : List ℕ) where
   spares-each : allRight (spares s) ≡ each (λ at. eqb (getD s at 0) 0) spareOffsets
   unfolding spares
@@ -44,11 +41,6 @@ module _ (s : List ℕ) where
   zero-spares h = rw spares-each (each-test (λ at. eqb (getD s at 0) 0) (λ at e. rw (eq-eqb (getD s at 0) 0 e) tt) h)
 
 -- ---- from bytes to values and back
-
-upTo-zeros : (n : ℕ) → upTo {A = ℕ} n (λ k. 0) ≡ replicate n 0
-unfolding upTo
-upTo-zeros zero = refl
-upTo-zeros (suc n) = ap (λ (t : List ℕ). 0 ∷ t) (upTo-zeros n)
 
 -- p is the n bytes of s from a place on
 record Part (s : List ℕ) (at n : ℕ) (p : List ℕ) : Type 0 where
@@ -108,7 +100,7 @@ module _ (s : List ℕ) (byte : (k : ℕ) → getD s k 0 < 256) where
   tail-zero (z7 & rest) k h = rw (getD-upTo 436 (λ k. 74 + k) k 7 h) at (each-get (each-drop rest 8) {d = 7} z7 k)
 
   tail-is : Each (Zero s) spareOffsets → Part s 74 436 (replicate 436 0)
-  tail-is z = record { is = sym (upTo-same 436 _ _ (tail-zero z) ∙ upTo-zeros 436) }
+  tail-is z = record { is = sym (upTo-same 436 _ _ (tail-zero z) ∙ upTo-equal 436 0) }
 
   pub body-is : 510 ≤ length s → T (marked s) → Each (Zero s) spareOffsets → header (settingAt s) ++ replicate 436 0 ≡ take 510 s
   body-is l m z =
@@ -150,7 +142,7 @@ module _ (v : Setting) (rest : List ℕ) where
               high = u16-bytes (v .thresholds .high) [] (omega (arith, h .high .most)) i;
               slope1 = u16-bytes (v .thresholds .slope1) [] (omega (arith, h .slope1 .most)) i;
               slope2 = u16-bytes (v .thresholds .slope2) [] (omega (arith, h .slope2 .most)) i;
-              third = u16-bytes (v .thresholds .third) [] (omega (arith, h .third .most)) i;
+              knee = u16-bytes (v .thresholds .knee) [] (omega (arith, h .knee .most)) i;
               second = u16-bytes (v .thresholds .second) [] (omega (arith, h .second .most)) i;
               fifth = u16-bytes (v .thresholds .fifth) [] (omega (arith, h .fifth .most)) i;
             };

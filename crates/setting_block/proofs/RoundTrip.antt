@@ -10,8 +10,8 @@ use lib.Dec.{T, eqb, ltb, eqb→eq}
 use lib.ListN.{length, take, drop, replicate, length-append}
 use lib.Seq.{take-at}
 use borrow.Author.Tests.{eq-eqb, le-ltb}
-use Rattle.integer.specs.Tests.{hold}
-use Rattle.integer.proofs.TestLaws.{split, pair, is-true, hold-at, each-++}
+use Rattle.lists.specs.Tests.{hold}
+use Rattle.lists.proofs.TestLaws.{split, pair, is-true, hold-at, each-++}
 use Rattle.refusal.specs.Refusals.{_when_, gives, done, noneApplies}
 use Rattle.block.specs.Bytes.{areBytes}
 use Rattle.block.specs.Block.{sumsOf, checked, sealed}

@@ -7,8 +7,8 @@ use native.Mathlib.Omega.{arith}
 use lib.Dec.{eqb}
 use lib.ListN.{length, getD, drop, length-map, List·getD-map, List·getD-append}
 use lib.Seq.{getD-append-add}
-use Rattle.integer.specs.Lists.{upTo}
-use Rattle.integer.proofs.Places.{getD-upTo}
+use Rattle.lists.specs.Lists.{upTo}
+use Rattle.lists.proofs.Places.{getD-upTo}
 use Rattle.setting.specs.declared.Fault.the-variants.{Nowhere, At}
 use Rattle.setting.specs.Search.{firstWrong}
 use Rattle.setting.proofs.FieldLaws.{search-turn, search-done}

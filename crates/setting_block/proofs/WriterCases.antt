@@ -1,5 +1,5 @@
 -- What the writer gives in each of its cases, and the block that it makes.
-use mathlib.Core.Path.{_≡_, refl, sym, ap, _∙_}
+use mathlib.Core.Path.{_≡_, sym, ap, _∙_}
 use mathlib.Core.List.{List, [], _∷_, _++_, append-assoc}
 use Prim.Native.Nat.{ℕ, _+_, _<_, _≤_}
 use native.Mathlib.Omega.{arith}
@@ -7,12 +7,12 @@ use lib.Dec.{ltb}
 use lib.ListN.{length, take, drop, replicate, length-append}
 use lib.Seq.{length-take-le, take-at, take-append-add, drop-append-add, drop-drop}
 use borrow.Author.Tests.{lt-ltb, le-ltb}
-use Rattle.integer.specs.Tests.{none}
+use Rattle.lists.specs.Tests.{none}
 use Rattle.refusal.specs.declared.Refusal.{Refusal}
 use Rattle.refusal.specs.declared.Verdict.{Verdict}
 use Rattle.refusal.specs.declared.Verdict.the-variants.{Accepted, Refused}
 use Rattle.refusal.specs.Refusals.{numberOf, Row, declines, done, byOutcome, _when_, firstRefusal, outcomeOf, offsetsOf}
-use Rattle.block.specs.Block.{sealed, placed}
+use Rattle.block.specs.Block.{sealed, bufferWith}
 use Rattle.setting.specs.declared.Setting.{Setting}
 use Rattle.setting.specs.Values.{storeRows}
 use Rattle.setting.specs.Calls.{Judges}
@@ -58,5 +58,5 @@ module _ (v : Setting) (buffer : List ℕ) where
         let o : writeOf v buffer ≡ declines (numberOf q) = rows-by j ∙ rw (lt-ltb (length buffer) 512 h, e) in
         record { outcome = sym o; bytes = rw o; offset = rw n none }
 
-    pub written : 512 ≤ length buffer → Writes v buffer Accepted (placed buffer (blockOf v))
+    pub written : 512 ≤ length buffer → Writes v buffer Accepted (bufferWith buffer (blockOf v))
     written h = let o : writeOf v buffer ≡ done = rows-by j ∙ rw (le-ltb (length buffer) 512 h) in record { outcome = sym o; bytes = rw o; offset = none }

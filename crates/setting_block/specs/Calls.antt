@@ -5,11 +5,11 @@ use mathlib.Core.List.{List, [], _∷_, _++_}
 use Prim.Native.Nat.{ℕ}
 use lib.Dec.{eqb, ltb}
 use lib.ListN.{length}
-use Rattle.integer.specs.Tests.{Each}
+use Rattle.lists.specs.Tests.{Each}
 use Rattle.refusal.specs.declared.Verdict.{Verdict}
 use Rattle.refusal.specs.Refusals.{numberOf, Outcome, gives, declines, byOutcome, Row, _when_, firstOf, firstRefusal, offsetsOf}
 use Rattle.refusal.specs.Refusals as R
-use Rattle.block.specs.Block.{checked, placed}
+use Rattle.block.specs.Block.{checked, bufferWith}
 use Rattle.setting.specs.declared.Field.{Field}
 use Rattle.setting.specs.declared.Setting.{Setting}
 use Rattle.setting.specs.Values.{fields, valueRows, storeRows}
@@ -60,7 +60,7 @@ writeOf v buffer = firstRefusal (writeRows v buffer)
 
 -- the buffer after the call: the block as its first 512 bytes, or as before
 abbrev pub writeLeaves : Setting → (buffer : List ℕ) → List ℕ
-writeLeaves v buffer = byOutcome (writeOf v buffer) (λ refusal. buffer) (λ done. placed buffer (blockOf v))
+writeLeaves v buffer = byOutcome (writeOf v buffer) (λ refusal. buffer) (λ done. bufferWith buffer (blockOf v))
 
 -- what writing the values v to a buffer gives
 pub record Writes (v : Setting) (before : List ℕ) (r : Verdict) (after : List ℕ) : Type 0 where

@@ -5,7 +5,7 @@ use mathlib.Core.List.{List, [], _∷_, _++_, map}
 use Prim.Native.Nat.{ℕ, _+_, _*_, _≤_}
 use lib.Dec.{eqb}
 use lib.ListN.{length, getD, take, drop, replicate}
-use Rattle.integer.specs.Lists.{upTo}
+use Rattle.lists.specs.Lists.{upTo}
 use Rattle.block.specs.Bytes.{u16At, u32At, bytes16, bytes32}
 use Rattle.block.specs.Block.{sealed}
 use Rattle.setting.specs.declared.End.{End}
@@ -35,7 +35,7 @@ settingAt s =
             high = u16At s 62;
             slope1 = u16At s 64;
             slope2 = u16At s 66;
-            third = u16At s 68;
+            knee = u16At s 68;
             second = u16At s 70;
             fifth = u16At s 72;
           };
@@ -85,7 +85,7 @@ header v =
     ++ bytes16 (v .thresholds .high)
     ++ bytes16 (v .thresholds .slope1)
     ++ bytes16 (v .thresholds .slope2)
-    ++ bytes16 (v .thresholds .third)
+    ++ bytes16 (v .thresholds .knee)
     ++ bytes16 (v .thresholds .second)
     ++ bytes16 (v .thresholds .fifth)
 

@@ -56,7 +56,7 @@ fn setting_at(s: &[u8]) -> Setting
         high: block::u16_at(s, 62),
         slope1: block::u16_at(s, 64),
         slope2: block::u16_at(s, 66),
-        third: block::u16_at(s, 68),
+        knee: block::u16_at(s, 68),
         second: block::u16_at(s, 70),
         fifth: block::u16_at(s, 72),
     };

@@ -68,7 +68,7 @@ fn block_of(v: Setting) -> [u8; 512]
     let b = put_16(b, 62, t.high);
     let b = put_16(b, 64, t.slope1);
     let b = put_16(b, 66, t.slope2);
-    let b = put_16(b, 68, t.third);
+    let b = put_16(b, 68, t.knee);
     let b = put_16(b, 70, t.second);
     let b = put_16(b, 72, t.fifth);
     block::seal(b)

@@ -3,14 +3,14 @@ use mathlib.Core.Path.{_≡_, refl, ap, _∙_}
 use mathlib.Core.List.{List, [], _∷_, _++_, flatten}
 use lib.Dec.{T}
 use lib.IntN.{ℤ}
-use Rattle.integer.specs.Tests.{Each, none, _&_}
-use Rattle.integer.proofs.TestLaws.{is-true, each-append}
-use Rattle.integer.proofs.Places.{length-upTo}
+use Rattle.lists.specs.Tests.{Each, none, _&_}
+use Rattle.lists.proofs.TestLaws.{is-true, each-append}
+use Rattle.lists.proofs.Places.{length-upTo}
 use Rattle.refusal.specs.Refusals.{gives}
 use Rattle.setting.specs.declared.Setting.{Setting}
 use Rattle.setting.specs.Values.{startable}
 use Rattle.matching.specs.Sets.{numbers}
-use Rattle.record.specs.declared.Window.{Window}
+use Rattle.state.specs.declared.Window.{Window}
 use Rattle.relay.specs.declared.Relay.{Relay}
 use Rattle.relay.specs.Record.{fresh}
 use Rattle.relay.specs.Calls.{windowAfter, replyNow, relayNow, cleared}

@@ -12,12 +12,12 @@ use lib.IntN.{ℤ, pos}
 use lib.ListN.{length}
 use Rattle.integer.specs.Within.{_within_}
 use Rattle.integer.specs.Sum.{sum}
-use Rattle.integer.specs.Tests.{Each, none, _&_}
+use Rattle.lists.specs.Tests.{Each, none, _&_}
 use Rattle.integer.proofs.Reading.{ints}
 use Rattle.integer.proofs.Laws.{within-is, within-≤}
 use Rattle.integer.proofs.SumLaws.{sum-same, sum-within}
-use Rattle.integer.proofs.TestLaws.{each-get, each-append}
-use Rattle.integer.proofs.Places.{getD-upTo}
+use Rattle.lists.proofs.TestLaws.{each-get, each-append}
+use Rattle.lists.proofs.Places.{getD-upTo}
 use Rattle.setting.specs.declared.Setting.{Setting}
 use Rattle.setting.specs.Values.{startable}
 use Rattle.setting.specs.Worked.{plain}
@@ -31,9 +31,9 @@ use Rattle.characteristic.specs.Bound.{QuietBound}
 use Rattle.characteristic.proofs.Bound.{quiet-bound}
 use Rattle.measuring.specs.Window.{sums}
 use Rattle.measuring.specs.Measuring.{differential, start, blocked, readingOf}
-use Rattle.record.specs.declared.Window.{Window}
-use Rattle.record.specs.Record.{elementOf, perSystem, clear}
-use Rattle.record.proofs.Elements.{per-system, no-latch-after}
+use Rattle.state.specs.declared.Window.{Window}
+use Rattle.state.specs.State.{elementOf, perSystem, clear}
+use Rattle.state.proofs.Elements.{per-system, no-latch-after}
 use Rattle.relay.specs.Calls.{accepted, full, counting, elementNow, measureNow, replyNow, relayNow, cleared, filling, measured}
 use Rattle.matching.proofs.Total.{total-bound}
 use Rattle.relay.proofs.Ready.{reach}

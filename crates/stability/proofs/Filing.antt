@@ -10,10 +10,10 @@ use borrow.Author.Tests.{lt-ltb, le-ltb, ltb-true, ltb-false}
 use lib.IntN.{ℤ, pos}
 use lib.ListN.{length, getD, take, drop, replicate, length-append, length-drop, List·getD-append, replicate-append-replicate}
 use lib.Seq.{take-at, drop-at, drop-append-add, drop-append-le, getD-append-add}
-use Rattle.integer.specs.Tests.{Each, none, _&_}
-use Rattle.integer.proofs.Places.{drop-next}
-use Rattle.integer.proofs.TestLaws.{each-drop}
-use Rattle.record.specs.Record.{placed}
+use Rattle.lists.specs.Tests.{Each, none, _&_}
+use Rattle.lists.proofs.Places.{drop-next}
+use Rattle.lists.proofs.TestLaws.{each-drop}
+use Rattle.state.specs.State.{windowWith}
 use Rattle.stability.specs.Lists.{last12, windowOf}
 
 -- ---- sets laid out flat
@@ -56,8 +56,8 @@ flat-at (_&_ {a = w} {l = ws} e hs) rest (suc k) j h l =
 
 module _ {ws : List (List ℤ)} (ns : List ℤ) where
   -- while there is room
-  room : Each Twelve ws → length ws < 12 → placed (windowOf ws) ns ≡ windowOf (ws ++ (ns ∷ []))
-  unfolding placed windowOf
+  room : Each Twelve ws → length ws < 12 → windowWith (windowOf ws) ns ≡ windowOf (ws ++ (ns ∷ []))
+  unfolding windowWith windowOf
   room each h =
       let n = length ws in
       let m = 144 - 12 * (n + 1) in
@@ -71,19 +71,19 @@ module _ {ws : List (List ℤ)} (ns : List ℤ) where
       rw (lt-ltb n 12 h, front, back, flat-snoc ws ns, more, append-assoc (flatten ws) ns (replicate m (pos 0)))
 
   -- once twelve are held
-  oldest-gone : {w : List ℤ} → Each Twelve (w ∷ ws) → length ws ≡ 11 → placed (windowOf (w ∷ ws)) ns ≡ windowOf (ws ++ (ns ∷ []))
-  unfolding placed windowOf flatten
+  oldest-gone : {w : List ℤ} → Each Twelve (w ∷ ws) → length ws ≡ 11 → windowWith (windowOf (w ∷ ws)) ns ≡ windowOf (ws ++ (ns ∷ []))
+  unfolding windowWith windowOf flatten
   oldest-gone {w} (one & each) e =
       let full : length (w ∷ ws) ≡ 12 = omega arith in
       let more : length (ws ++ (ns ∷ [])) ≡ 12 = length-append ws (ns ∷ []) ∙ omega arith in
       let old : drop 12 (flatten (w ∷ ws) ++ []) ≡ flatten ws = rw append-nil (drop-at w (flatten ws) 12 one) in
       rw (le-ltb (length (w ∷ ws)) 12 (omega arith), full, more, flat-snoc ws ns, old, append-nil (flatten ws ++ ns))
 
-pub filed-window : {ws : List (List ℤ)} → Each Twelve ws → (ns : List ℤ) → placed (windowOf (last12 ws)) ns ≡ windowOf (last12 (ws ++ (ns ∷ [])))
+pub filed-window : {ws : List (List ℤ)} → Each Twelve ws → (ns : List ℤ) → windowWith (windowOf (last12 ws)) ns ≡ windowOf (last12 (ws ++ (ns ∷ [])))
 unfolding last12
 filed-window {ws} each ns = by (ltb (length ws) 12) refl
   where
-    by : (b : Bool) → ltb (length ws) 12 ≡ b → placed (windowOf (last12 ws)) ns ≡ windowOf (last12 (ws ++ (ns ∷ [])))
+    by : (b : Bool) → ltb (length ws) 12 ≡ b → windowWith (windowOf (last12 ws)) ns ≡ windowOf (last12 (ws ++ (ns ∷ [])))
     by true e =
         let few = ltb-true (length ws) 12 e in
         let all : length ws - 12 ≡ 0 = omega arith in

@@ -7,9 +7,9 @@ use lib.Dec.{lit≤}
 use lib.IntN.{ℤ, pos, negℤ}
 use Rattle.integer.specs.Nearest.{nearest, floor}
 use Rattle.integer.specs.Sum.{sum}
-use Rattle.integer.specs.Lists.{upTo}
-use Rattle.integer.specs.Tests.{eqZ}
-use Rattle.setting.specs.Values.{endOf, above, below, factor, factorHigh, factorsLow, valueRows}
+use Rattle.lists.specs.Lists.{upTo}
+use Rattle.integer.specs.Within.{eqZ}
+use Rattle.setting.specs.Values.{endOf, factorTop, factorUnder, factor, factorHigh, factorsLow, valueRows}
 use Rattle.setting.specs.Worked.{factory}
 use Rattle.matching.specs.Matching.{Three, three, operation, sum3}
 use Rattle.matching.specs.Sets.{System, sysA, sysB, sysC, seen, phases, filtered}
@@ -44,7 +44,7 @@ unfiltered (suc z) h e = refl
 
 near : (z : ℕ) → z < 2 → (l : System) →
     let e = endOf factory z in
-    NearIdeal (e .group) (filtered e) (above e) (below factory) (seen l (flow z)) (zeroSequence z) (seen l (phases through z) .p)
+    NearIdeal (e .group) (filtered e) (factorTop e) (factorUnder factory) (seen l (flow z)) (zeroSequence z) (seen l (phases through z) .p)
 unfolding factory through seen ideal operation
 near zero h sysA = record { size = lit≤ tt }
 near zero h sysB = record { size = lit≤ tt }

@@ -10,14 +10,15 @@ use Rattle.setting.specs.Worked.{plain}
 use Rattle.integer.specs.Nearest.{nearest, floor}
 use Rattle.integer.specs.Root.{rootBy}
 use Rattle.integer.specs.Sum.{sum}
-use Rattle.integer.specs.Lists.{upTo}
-use Rattle.integer.specs.Tests.{eqZ, Each}
+use Rattle.lists.specs.Lists.{upTo}
+use Rattle.lists.specs.Tests.{Each}
+use Rattle.integer.specs.Within.{eqZ}
 use Rattle.matching.specs.Matching.{operation, operated, matched}
 use Rattle.matching.specs.Sets.{System, sysA, sysB, sysC, seen, matchedAt, numbers}
 use Rattle.amplitude.specs.Amplitude.{t, weightedSum, cycle, amplitude}
 use Rattle.characteristic.specs.Characteristic.{starts, hasHarmonics}
 use Rattle.measuring.specs.Measuring.{twiceRestraint, harmonics, blocked}
-use Rattle.record.specs.Record.{elementOf, elementAfter, placed}
+use Rattle.state.specs.State.{elementOf, elementAfter, windowWith}
 use Rattle.relay.specs.Record.{fresh, admissible}
 use Rattle.relay.specs.Calls.{setRows, sampleRows, relayNow}
 use Rattle.relay.specs.Lists.{Call, sample, run}
@@ -32,7 +33,7 @@ latchAfter l = elementOf (run (fresh plain) fault .trip) l .latch
 
 pub fault-trips : startable plain ∷ latchAfter sysA ∷ latchAfter sysB ∷ latchAfter sysC ∷ [] ≡ true ∷ true ∷ false ∷ false ∷ []
 unfolding plain fault latchAfter factor factorHigh factorsLow valueRows nearest floor rootBy sum upTo operation operated matched seen matchedAt numbers
-    t weightedSum cycle amplitude twiceRestraint harmonics blocked starts hasHarmonics elementAfter fresh admissible placed setRows sampleRows relayNow eqZ
+    t weightedSum cycle amplitude twiceRestraint harmonics blocked starts hasHarmonics elementAfter fresh admissible windowWith setRows sampleRows relayNow eqZ
 fault-trips = refl
 
 -- not each of these sets is that of a healthy bank

@@ -10,7 +10,7 @@ use Rattle.refusal.specs.Refusals.{gives}
 use Rattle.setting.specs.declared.Setting.{Setting}
 use Rattle.setting.specs.Values.{startable}
 use Rattle.matching.specs.Sets.{numbers}
-use Rattle.record.specs.declared.Window.{Window}
+use Rattle.state.specs.declared.Window.{Window}
 use Rattle.relay.specs.Record.{fresh}
 use Rattle.relay.specs.Calls.{accepted, replyNow, sampleReply}
 use Rattle.relay.specs.Lists.{Call, sample, reset, run}

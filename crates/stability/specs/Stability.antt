@@ -5,7 +5,7 @@ use mathlib.Core.Bool.{false}
 use mathlib.Core.List.{List}
 use Prim.Native.Nat.{_≤_}
 use lib.Dec.{T}
-use Rattle.integer.specs.Tests.{Each}
+use Rattle.lists.specs.Tests.{Each}
 use Rattle.refusal.specs.Refusals.{Outcome, gives, declines}
 use Rattle.setting.specs.declared.Setting.{Setting}
 use Rattle.setting.specs.Values.{startable}
@@ -14,7 +14,7 @@ use Rattle.matching.specs.Bank.{Healthy}
 use Rattle.amplitude.specs.Peak.{peak}
 use Rattle.relay.specs.declared.Measure.{Measure}
 use Rattle.relay.specs.declared.Relay.{Relay}
-use Rattle.record.specs.Record.{elementOf}
+use Rattle.state.specs.State.{elementOf}
 use Rattle.relay.specs.Record.{fresh}
 use Rattle.relay.specs.Calls.{accepted, Reply, filling, measured, sampleReply, resetReply}
 use Rattle.relay.specs.Lists.{Call, sample, reset, Every}

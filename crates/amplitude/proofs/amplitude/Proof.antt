@@ -46,4 +46,5 @@ returns-3 c = is Fifth (c .before .before .before .pre) (c .before .enum-told3 .
 
 pub amplitude-spec : {M : Type 1} → statement M
 amplitude-spec =
-    tie.close (tie.spec enum-told of-order-requires enum-told-2 of-order-requires-2 enum-told-3 of-order-requires-3 returns returns-2 returns-3)
+    tie.close
+    (tie.spec enum-told of-order-requires enum-told-2 of-order-requires-2 enum-told-3 of-order-requires-3 returns returns-2 returns-3)

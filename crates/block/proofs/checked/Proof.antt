@@ -6,7 +6,7 @@ use native.Mathlib.Omega.{arith}
 use lib.ListN.{take}
 use lib.Seq.{length-take-le}
 use Rattle.block.specs.Block.{sumsOf}
-use Rattle.block.proofs.Turns.{take-short}
+use Rattle.lists.proofs.Runs.{take-short}
 use Rattle.block.proofs.checked.Statement.{statement}
 use Rattle.block.proofs.checked.Tie as tie
 
@@ -34,4 +34,5 @@ returns-2 c = rw (← (sums (c .before .before .before .before .before)), eq-eqb
 
 pub checked-spec : {M : Type 1} → statement M
 checked-spec =
-    tie.close (tie.spec slice-aggregate-check-sums check-sums-requires shared-slice-read-if1 returns shared-slice-read-result returns-2)
+    tie.close
+    (tie.spec slice-aggregate-check-sums check-sums-requires shared-slice-read-if1 returns shared-slice-read-result returns-2)

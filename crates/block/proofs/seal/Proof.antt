@@ -6,7 +6,7 @@ use native.Mathlib.Omega.{arith}
 use lib.ListN.{length, take, drop-of-length-le}
 use lib.Seq.{length-take-le, sets-eq}
 use Rattle.block.specs.Block.{sumsOf}
-use Rattle.block.proofs.Turns.{take-short}
+use Rattle.lists.proofs.Runs.{take-short}
 use Rattle.block.proofs.seal.Statement.{statement}
 use Rattle.block.proofs.seal.Tie as tie
 
@@ -37,4 +37,5 @@ returns c =
 
 pub seal-spec : {M : Type 1} → statement M
 seal-spec =
-    tie.close (tie.spec array-share-prefix-b slice-aggregate-check-sums check-sums-requires array-write-t array-write-t-2 returns)
+    tie.close
+    (tie.spec array-share-prefix-b slice-aggregate-check-sums check-sums-requires array-write-t array-write-t-2 returns)

@@ -6,7 +6,7 @@ use mathlib.Core.Path.{_≡_, refl}
 use Prim.Native.Nat.{_-_}
 use lib.ListN.{length, drop}
 use Rattle.block.specs.Bytes.{zeros}
-use Rattle.block.proofs.Turns.{each-stop, each-more, each-done}
+use Rattle.lists.proofs.Loops.{each-stop, each-more, each-done}
 use Rattle.block.proofs.zeros.Statement.{statement}
 use Rattle.block.proofs.zeros.Tie as tie
 
@@ -42,4 +42,5 @@ returns-2 c = each-done _ _ _ (c .before .loop .inv) (c .loop-test .left)
 
 pub zeros-spec : {M : Type 1} → statement M
 zeros-spec =
-    tie.close (tie.spec Inv-loop μ-loop loop-holds shared-slice-read-if1 returns add-at loop-less loop-again returns-2)
+    tie.close
+    (tie.spec Inv-loop μ-loop loop-holds shared-slice-read-if1 returns add-at loop-less loop-again returns-2)

@@ -26,4 +26,5 @@ returns c = rw (c .product2 .ensures .is, c .before .product .ensures .is)
 
 pub past-spec : {M : Type 1} → statement M
 past-spec =
-    tie.close (tie.spec mul-result product-requires add-result product-requires-2 add-result-2 mul-result-2 returns)
+    tie.close
+    (tie.spec mul-result product-requires add-result product-requires-2 add-result-2 mul-result-2 returns)

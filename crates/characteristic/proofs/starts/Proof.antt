@@ -24,7 +24,7 @@ unfolding starts
 returns c =
     let start = c .before .before .before in
     let low : start .args .c .r ≤ start .args .v .thresholds .basic = omega arith in
-    let under : start .args .c .r ≤ 2 * start .args .v .thresholds .third = omega (arith, start .pre) in
+    let under : start .args .c .r ≤ 2 * start .args .v .thresholds .knee = omega (arith, start .pre) in
     rw (c .before .before .wide .ensures .is, le-leb _ _ low, le-ltb _ _ low, le-ltb _ _ under) (sym (or-false _))
 
 sub-past : tie.Need-sub-past
@@ -38,7 +38,7 @@ unfolding starts
 returns-2 c =
     let start = c .before .before .before .before .before in
     let past : start .args .v .thresholds .basic < start .args .c .r = omega arith in
-    let under : start .args .c .r ≤ 2 * start .args .v .thresholds .third = omega arith in
+    let under : start .args .c .r ≤ 2 * start .args .v .thresholds .knee = omega arith in
     rw (c .past .ensures, add-zero, c .before .before .before .before .wide .ensures .is, lt-leb _ _ past, lt-ltb _ _ past, le-leb _ _ under, le-ltb _ _ under)
     (sym (or-false _))
 
@@ -56,7 +56,7 @@ unfolding starts
 returns-3 c =
     let start = c .before .before .before .before .before in
     let past : start .args .v .thresholds .basic < start .args .c .r = omega arith in
-    let over : 2 * start .args .v .thresholds .third < start .args .c .r = omega arith in
+    let over : 2 * start .args .v .thresholds .knee < start .args .c .r = omega arith in
     rw (
       c .past2 .ensures,
       c .before .before .before .before .wide .ensures .is,
@@ -69,4 +69,5 @@ returns-3 c =
 
 pub starts-spec : {M : Type 1} → statement M
 starts-spec =
-    tie.close (tie.spec wide-requires wide-requires-2 mul-q returns sub-past past-requires returns-2 sub-past-2 sub-past-3 past-requires-2 returns-3)
+    tie.close
+    (tie.spec wide-requires wide-requires-2 mul-q returns sub-past past-requires returns-2 sub-past-2 sub-past-3 past-requires-2 returns-3)

@@ -56,7 +56,8 @@ returns : tie.Need-returns
 unfolding nearest
 returns c =
     let s = c .before in
-    let test = rw (back (add-t s), back (mul-m s), back (mul-t s), back (s .fits .a), back (cast-d s), back-within (rem-within (t-small s) (m s)) w64 refl) at (c .if1 .taken) in
+    let read = back-within (rem-within (t-small s) (m s)) w64 refl in
+    let test = rw (back (add-t s), back (mul-m s), back (mul-t s), back (s .fits .a), back (cast-d s), read) at (c .if1 .taken) in
     rw (back (sub-result c), back (add-t s), back (mul-m s), back (mul-t s), back (s .fits .a), back (cast-d s), back (q-fits s))
     (floor-less (t s) (m s) (omega arith) (test ⇒ simp ints (omega arith)))
 
@@ -64,7 +65,8 @@ returns-2 : tie.Need-returns-2
 unfolding nearest
 returns-2 c =
     let s = c .before in
-    let test = rw (back (add-t s), back (mul-m s), back (mul-t s), back (s .fits .a), back (cast-d s), back-within (rem-within (t-small s) (m s)) w64 refl) at (c .if1 .left) in
+    let read = back-within (rem-within (t-small s) (m s)) w64 refl in
+    let test = rw (back (add-t s), back (mul-m s), back (mul-t s), back (s .fits .a), back (cast-d s), read) at (c .if1 .left) in
     rw (back (add-t s), back (mul-m s), back (mul-t s), back (s .fits .a), back (cast-d s), back (q-fits s))
     (floor-same (t s) (m s) (omega arith) (test ⇒ simp ints (omega arith)))
 

@@ -109,18 +109,4 @@ returns c =
 pub root-spec : {M : Type 1} → statement M
 root-spec =
     tie.close
-    (tie.spec
-    Inv-loop
-    μ-loop
-    sub-left
-    loop-holds
-    sub-left-2
-    cast-t
-    shl-t
-    add-t
-    mul-if1
-    loop-less
-    loop-again
-    loop-less-2
-    loop-again-2
-    returns)
+    (tie.spec Inv-loop μ-loop sub-left loop-holds sub-left-2 cast-t shl-t add-t mul-if1 loop-less loop-again loop-less-2 loop-again-2 returns)

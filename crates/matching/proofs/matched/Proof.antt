@@ -9,7 +9,7 @@ use Rattle.integer.proofs.Laws.{within-≤, within-is}
 use Rattle.integer.proofs.Machine.{back, back-ok}
 use Rattle.integer.proofs.Machine as machine
 use Rattle.matching.specs.Matching.{three, even, operated, matched}
-use Rattle.matching.specs.Sized.{parts}
+use Rattle.matching.specs.MatchingInput.{parts}
 use Rattle.matching.proofs.Bits.{kept, Number, given, fits, read, product}
 use Rattle.matching.proofs.Parts.{matched-in-parts, parts-within}
 use Rattle.matching.proofs.OneEnd.{one-size}

@@ -13,20 +13,20 @@ use mir.Syntax.{w16, w64}
 use mir.Val.{toZ, ofZ}
 use Rattle.integer.specs.Within.{_within_}
 use Rattle.integer.proofs.Machine.{back-within}
-use Rattle.integer.proofs.Fill.{place}
+use Rattle.lists.proofs.Fill.{place}
 use Rattle.setting.specs.declared.Setting.{Setting}
 use Rattle.setting.specs.Values.{endOf, factor}
 use Rattle.setting.specs.Limits.{fourFactors}
 use Rattle.matching.specs.Sets.{sysA, seen, phases, trioOf, matchedAt, trioAt}
-use Rattle.matching.specs.Sized.{Scaled, Accepted}
+use Rattle.matching.specs.MatchingInput.{MatchedInput, SetInput}
 use Rattle.matching.proofs.Total.{scaled}
 use Rattle.matching.proofs.matched_at.Statement.{statement}
 use Rattle.matching.proofs.matched_at.Tie as tie
 
 -- ---- an end in use
 
-module _ {v : Setting} {ks xs : List ℤ} (a : Accepted v ks xs) {z : ℕ} (h : z < v .ends) (l : z < 4) where
-  end-scaled : Scaled (factor v z) (endOf v z .group) (phases xs z)
+module _ {v : Setting} {ks xs : List ℤ} (a : SetInput v ks xs) {z : ℕ} (h : z < v .ends) (l : z < 4) where
+  end-scaled : MatchedInput (factor v z) (endOf v z .group) (phases xs z)
   unfolding seen
   end-scaled = scaled v (a .sound) xs (a .reach) z h sysA
 
@@ -106,5 +106,5 @@ pub matched-at-spec : {M : Type 1} → statement M
 matched-at-spec =
     tie.close
     (tie.spec mul-first mul-matched-end array-copy-out-matched-end end-of-requires mul-matched-end-2 shared-slice-copy-out-matched-end
-    add-matched-end mul-matched-end-3 shared-slice-copy-out-matched-end-2 add-matched-end-2 mul-matched-end-4
-    shared-slice-copy-out-matched-end-3 matched-end-requires returns returns-2)
+    add-matched-end mul-matched-end-3 shared-slice-copy-out-matched-end-2 add-matched-end-2 mul-matched-end-4 shared-slice-copy-out-matched-end-3
+    matched-end-requires returns returns-2)

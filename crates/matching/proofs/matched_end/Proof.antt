@@ -62,4 +62,6 @@ returns c =
     )
 
 pub matched-end-spec : {M : Type 1} → statement M
-matched-end-spec = tie.close (tie.spec cast-x cast-y cast-z matched-requires matched-requires-2 matched-requires-3 returns)
+matched-end-spec =
+    tie.close
+    (tie.spec cast-x cast-y cast-z matched-requires matched-requires-2 matched-requires-3 returns)

@@ -1,7 +1,7 @@
 -- `matching::numbers` meets its contract: the four trios, one after the other, are the twelve places.
 use borrow.Author.Needs.{needs}
 use mir.Syntax.{w32}
-use Rattle.integer.specs.Lists.{upTo}
+use Rattle.lists.specs.Lists.{upTo}
 use Rattle.integer.proofs.Machine.{back-ok}
 use Rattle.matching.specs.Sets.{trioAt, numbers}
 use Rattle.matching.proofs.numbers.Statement.{statement}
@@ -52,4 +52,5 @@ returns c =
 
 pub numbers-spec : {M : Type 1} → statement M
 numbers-spec =
-    tie.close (tie.spec matched-at-requires matched-at-requires-2 matched-at-requires-3 matched-at-requires-4 returns)
+    tie.close
+    (tie.spec matched-at-requires matched-at-requires-2 matched-at-requires-3 matched-at-requires-4 returns)

@@ -9,7 +9,7 @@ use lib.IntN.{ℤ, _+ℤ_}
 use Rattle.integer.proofs.Reading.{ints}
 use Rattle.integer.proofs.Laws.{within-≤, within-is}
 use Rattle.matching.specs.Matching.{three, even, operation, operated}
-use Rattle.matching.specs.Sized.{Small, parts}
+use Rattle.matching.specs.MatchingInput.{OperationInput, parts}
 use Rattle.matching.proofs.Bits.{kept, Number, given, fits, read, times, plus, minus}
 use Rattle.matching.proofs.Forms.{operation-less}
 use Rattle.matching.proofs.Rows.{operation-within}
@@ -19,7 +19,7 @@ use Rattle.matching.proofs.operated.Tie as tie
 -- ---- T(g) of three numbers of the code
 
 module _ {a b d u v w : ℤ} {m : ℕ} (x : Number a u m) (y : Number b v m) (z : Number d w m) (l : m ≤ 2 ^ 20) where
-  taken : Small (kept a) (kept b) (kept d)
+  taken : OperationInput (kept a) (kept b) (kept d)
   taken =
       record {
         own = within-is (read x) (within-≤ (x .size) l);
@@ -120,5 +120,5 @@ returns-4 c =
 pub operated-spec : {M : Type 1} → statement M
 operated-spec =
     tie.close
-    (tie.spec add-s add-s-2 operation-requires mul-u operation-requires-2 mul-result sub-result returns
-    returns-2 mul-u-2 returns-3 mul-result-2 add-result returns-4)
+    (tie.spec add-s add-s-2 operation-requires mul-u operation-requires-2 mul-result sub-result returns returns-2 mul-u-2 returns-3 mul-result-2
+    add-result returns-4)

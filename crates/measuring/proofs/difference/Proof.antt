@@ -6,7 +6,7 @@ use Prim.Native.Nat.{ℕ, _-_}
 use lib.IntN.{ℤ, pos}
 use mir.Syntax.{w32}
 use mir.Val.{toZ, ofZ}
-use Rattle.integer.proofs.Fill.{Filled, filled-none, filled-more, filled-all}
+use Rattle.lists.proofs.Fill.{Filled, filled-none, filled-more, filled-all}
 use Rattle.integer.proofs.Laws.{within--}
 use Rattle.integer.proofs.Machine.{fits, back}
 use Rattle.matching.specs.Sets.{system}
@@ -70,4 +70,5 @@ returns c = filled-all (c .before .loop .inv) (c .loop-test .left)
 
 pub difference-spec : {M : Type 1} → statement M
 difference-spec =
-    tie.close (tie.spec Inv-loop μ-loop loop-holds at-requires at-requires-2 sub-x mul-t array-set-from-t add-k loop-less loop-again returns)
+    tie.close
+    (tie.spec Inv-loop μ-loop loop-holds at-requires at-requires-2 sub-x mul-t array-set-from-t add-k loop-less loop-again returns)

@@ -3,7 +3,7 @@ use borrow.Author.Needs.{needs}
 use mathlib.Core.Path.{refl}
 use Prim.Native.Nat.{_-_}
 use lib.IntN.{pos}
-use Rattle.integer.proofs.Fill.{Filled, filled-none, filled-more, filled-all}
+use Rattle.lists.proofs.Fill.{Filled, filled-none, filled-more, filled-all}
 use Rattle.matching.specs.Sets.{system}
 use Rattle.measuring.specs.Window.{series}
 use Rattle.measuring.proofs.Places.{read}
@@ -46,4 +46,5 @@ returns c = filled-all (c .before .loop .inv) (c .loop-test .left)
 
 pub series-spec : {M : Type 1} → statement M
 series-spec =
-    tie.close (tie.spec Inv-loop μ-loop loop-holds at-requires mul-t array-set-from-t add-k loop-less loop-again returns)
+    tie.close
+    (tie.spec Inv-loop μ-loop loop-holds at-requires mul-t array-set-from-t add-k loop-less loop-again returns)

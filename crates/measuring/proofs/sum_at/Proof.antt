@@ -74,4 +74,5 @@ returns c =
 
 pub sum-at-spec : {M : Type 1} → statement M
 sum-at-spec =
-    tie.close (tie.spec Inv-loop μ-loop loop-holds cast-at at-requires add-s add-z loop-less loop-again returns)
+    tie.close
+    (tie.spec Inv-loop μ-loop loop-holds cast-at at-requires add-s add-z loop-less loop-again returns)

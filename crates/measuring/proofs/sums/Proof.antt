@@ -4,7 +4,7 @@ use mathlib.Core.Path.{refl, _∙_}
 use Prim.Native.Nat.{_-_}
 use lib.IntN.{pos}
 use mir.Syntax.{w32}
-use Rattle.integer.proofs.Fill.{Filled, filled-none, filled-more, filled-all}
+use Rattle.lists.proofs.Fill.{Filled, filled-none, filled-more, filled-all}
 use Rattle.integer.proofs.Machine.{back-ok}
 use Rattle.matching.specs.Sets.{system}
 use Rattle.measuring.specs.Window.{sums}
@@ -45,4 +45,5 @@ returns c = filled-all (c .before .loop .inv) (c .loop-test .left)
 
 pub sums-spec : {M : Type 1} → statement M
 sums-spec =
-    tie.close (tie.spec Inv-loop μ-loop loop-holds sum-at-requires mul-t array-set-from-t add-k loop-less loop-again returns)
+    tie.close
+    (tie.spec Inv-loop μ-loop loop-holds sum-at-requires mul-t array-set-from-t add-k loop-less loop-again returns)

@@ -43,4 +43,5 @@ returns c =
 
 pub system-currents-spec : {M : Type 1} → statement M
 system-currents-spec =
-    tie.close (tie.spec sums-requires amplitude-requires twice-restraint-requires amplitude-requires-2 amplitude-requires-3 returns)
+    tie.close
+    (tie.spec sums-requires amplitude-requires twice-restraint-requires amplitude-requires-2 amplitude-requires-3 returns)

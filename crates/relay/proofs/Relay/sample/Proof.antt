@@ -22,7 +22,9 @@ refused-requires c κs = search needs
 
 returns : tie.Need-returns
 unfolding sampleRows
-returns c = declined (c .before .before .before .args .self) (c .before .before .before .args .set .now) (here (rw (← (c .before .before .admissible .ensures)) (c .before .if1 .taken))) (c .refused .ensures)
+returns c =
+    let start = c .before .before .before in
+    declined (start .args .self) (start .args .set .now) (here (rw (← (c .before .before .admissible .ensures)) (c .before .if1 .taken))) (c .refused .ensures)
 
 factors-requires : tie.Need-factors-requires
 factors-requires c κs = factors-ready _ (c .before .before .before .args .set .now) (admitted (c .before))
@@ -34,4 +36,6 @@ returns-2 : tie.Need-returns-2
 returns-2 c = c .sample-admitted .ensures
 
 pub sample-spec : {M : Type 1} → statement M
-sample-spec = tie.close (tie.spec admissible-requires refused-requires returns factors-requires sample-admitted-requires returns-2)
+sample-spec =
+    tie.close
+    (tie.spec admissible-requires refused-requires returns factors-requires sample-admitted-requires returns-2)

@@ -34,10 +34,4 @@ returns c =
 pub measured-spec : {M : Type 1} → statement M
 measured-spec =
     tie.close
-    (tie.spec
-    slice-aggregate-measure
-    measure-requires
-    element-now-requires
-    element-now-requires-2
-    element-now-requires-3
-    returns)
+    (tie.spec slice-aggregate-measure measure-requires element-now-requires element-now-requires-2 element-now-requires-3 returns)

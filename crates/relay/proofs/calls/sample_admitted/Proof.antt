@@ -8,19 +8,19 @@ use Prim.Native.Nat.{_≤_, _<_}
 use native.Mathlib.Omega.{arith}
 use lib.IntN.{ℤ}
 use lib.ListN.{take}
-use Rattle.integer.specs.Tests.{Each, none, _&_}
-use Rattle.integer.proofs.TestLaws.{each-append}
+use Rattle.lists.specs.Tests.{Each, none, _&_}
+use Rattle.lists.proofs.TestLaws.{each-append}
 use Rattle.refusal.specs.Refusals.{gives}
 use Rattle.refusal.proofs.Stops.{Passed, here, past}
 use Rattle.matching.specs.Sets.{numbers}
 use Rattle.measuring.specs.WindowInput.{Measurable}
 use Rattle.relay.specs.declared.Relay.{Relay}
-use Rattle.record.specs.Record.{placed}
+use Rattle.state.specs.State.{windowWith}
 use Rattle.relay.specs.declared.Sampled.{Sampled}
 use Rattle.relay.specs.Calls.{inReach, setRows, sampleRows, windowAfter, replyNow, relayNow, Gives, Samples}
 use Rattle.relay.proofs.Cases.{declined, taken}
 use Rattle.relay.proofs.Ready.{few-held, numbers-ready, measure-ready}
-use Rattle.record.proofs.Placed.{placed-fill}
+use Rattle.state.proofs.Placed.{windowWith-fill}
 use Rattle.relay.proofs.calls.sample_admitted.Statement.{statement}
 use Rattle.relay.proofs.calls.sample_admitted.Tie as tie
 
@@ -70,7 +70,8 @@ returns-2 : tie.Need-returns-2
 unfolding sampleRows setRows
 returns-2 c =
     let start = c .before .before .before .before in
-    declined (r start) (xs start) (past 2 _ (passed-2 (c .before .before .before)) (here (rw (← (c .before .before .in-reach .ensures)) (c .before .if2 .taken))))
+    declined (r start) (xs start)
+    (past 2 _ (passed-2 (c .before .before .before)) (here (rw (← (c .before .before .in-reach .ensures)) (c .before .if2 .taken))))
     (c .refused2 .ensures)
 
 unused-zero-requires : tie.Need-unused-zero-requires
@@ -83,7 +84,8 @@ returns-3 : tie.Need-returns-3
 unfolding sampleRows setRows
 returns-3 c =
     let start = c .before .before .before .before .before .before .before in
-    declined (r start) (xs start) (past 3 _ (passed-3 (c .before .before .before .before)) (here (rw (← (c .before .before .unused-zero .ensures)) (c .before .if3 .taken))))
+    declined (r start) (xs start)
+    (past 3 _ (passed-3 (c .before .before .before .before)) (here (rw (← (c .before .before .unused-zero .ensures)) (c .before .if3 .taken))))
     (c .refused3 .ensures)
 
 -- the set is in reach
@@ -113,7 +115,7 @@ module _ (c : tie.After-place) where
   start = else2 .before .before .before
 
   filed : c .place .result ≡ windowAfter (r start) (xs start)
-  filed = c .place .ensures .window ∙ ap (λ (ns : List ℤ). placed (r start .window) ns) (c .before .numbers .ensures)
+  filed = c .place .ensures .window ∙ ap (λ (ns : List ℤ). windowWith (r start .window) ns) (c .before .numbers .ensures)
 
   answered : {s : Sampled} → Gives (gives (replyNow (r start) (c .place .result))) (relayNow (r start) (c .place .result)) s → Samples (r start) (xs start) s
   answered g = taken (r start) (xs start) (passed-4 else3) (c .place .result) filed g
@@ -124,7 +126,7 @@ module _ (c : tie.After-place) where
       (c .place .ensures .long)
 
   at-most : c .place .result .fill ≤ 12
-  at-most = rw filed (placed-fill (r start .window) (numbers (r start .setting) (xs start)))
+  at-most = rw filed (windowWith-fill (r start .window) (numbers (r start .setting) (xs start)))
 
 filling-requires : tie.Need-filling-requires
 filling-requires c κs =
@@ -148,18 +150,5 @@ returns-5 c = answered (c .before .before .before) (c .measured .ensures)
 pub sample-admitted-spec : {M : Type 1} → statement M
 sample-admitted-spec =
     tie.close
-    (tie.spec
-    refused-requires
-    returns
-    in-reach-requires
-    refused-requires-2
-    returns-2
-    unused-zero-requires
-    refused-requires-3
-    returns-3
-    numbers-requires
-    place-requires
-    filling-requires
-    returns-4
-    measured-requires
-    returns-5)
+    (tie.spec refused-requires returns in-reach-requires refused-requires-2 returns-2 unused-zero-requires refused-requires-3 returns-3
+    numbers-requires place-requires filling-requires returns-4 measured-requires returns-5)

@@ -1,7 +1,7 @@
 -- `setting::factors::factors` meets its contract: each factor is that of its end.
 use borrow.Author.Needs.{needs}
 use mir.Syntax.{w64}
-use Rattle.integer.specs.Lists.{upTo}
+use Rattle.lists.specs.Lists.{upTo}
 use Rattle.integer.proofs.Machine.{back-ok}
 use Rattle.setting.specs.Limits.{fourFactors}
 use Rattle.setting.proofs.factors.factors.Statement.{statement}

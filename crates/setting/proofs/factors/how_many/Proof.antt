@@ -82,4 +82,6 @@ returns c =
     omega (arith, rw (drop-of-length-le l none) at (c .before .loop .inv .2))
 
 pub how-many-spec : {M : Type 1} → statement M
-how-many-spec = tie.close (tie.spec Inv-loop μ-loop loop-holds cast-if1 mul-if1 array-copy-out-if1 add-n add-z loop-less loop-again returns)
+how-many-spec =
+    tie.close
+    (tie.spec Inv-loop μ-loop loop-holds cast-if1 mul-if1 array-copy-out-if1 add-n add-z loop-less loop-again returns)

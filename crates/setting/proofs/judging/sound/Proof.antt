@@ -3,7 +3,7 @@ use borrow.Author.Needs.{needs}
 use mathlib.Core.Path.{_≡_, sym, subst}
 use Prim.Native.Nat.{ℕ}
 use native.Mathlib.Omega.{arith}
-use Rattle.integer.proofs.TestLaws.{is-true, is-false}
+use Rattle.lists.proofs.TestLaws.{is-true, is-false}
 use Rattle.refusal.specs.Refusals.{firstRefusal, done}
 use Rattle.refusal.proofs.Stops.{none-gives, gives-none}
 use Rattle.refusal.specs.declared.Verdict.{Verdict}

@@ -7,7 +7,7 @@ use native.Mathlib.Omega.{arith}
 use lib.Dec.{ltb}
 use borrow.Author.Needs.{needs}
 use borrow.Author.Tests.{le-leb, lt-leb, lt-ltb, le-ltb}
-use Rattle.integer.specs.Tests.{none, _&_}
+use Rattle.lists.specs.Tests.{none, _&_}
 use Rattle.setting.specs.declared.Setting.{Setting}
 use Rattle.setting.specs.declared.Fault.{Fault}
 use Rattle.setting.specs.declared.Field.{Field}
@@ -124,17 +124,5 @@ returns-6 c gs g =
 pub verdict-beside-spec : {M : Type 1} → statement M
 verdict-beside-spec =
     tie.close
-    (tie.spec
-    returns
-    returns-2
-    fault-requires
-    sooner-requires
-    enum-known-f
-    returns-3
-    enum-told
-    factors-requires
-    how-many-requires
-    returns-4
-    how-many-requires-2
-    returns-5
-    returns-6)
+    (tie.spec returns returns-2 fault-requires sooner-requires enum-known-f returns-3 enum-told factors-requires how-many-requires returns-4
+    how-many-requires-2 returns-5 returns-6)

@@ -59,16 +59,4 @@ returns-2 c =
 pub fault-spec : {M : Type 1} → statement M
 fault-spec =
     tie.close
-    (tie.spec
-    Inv-loop
-    μ-loop
-    fields-requires
-    loop-holds
-    mul-f
-    array-copy-out-f
-    right-requires
-    returns
-    add-k
-    loop-less
-    loop-again
-    returns-2)
+    (tie.spec Inv-loop μ-loop fields-requires loop-holds mul-f array-copy-out-f right-requires returns add-k loop-less loop-again returns-2)

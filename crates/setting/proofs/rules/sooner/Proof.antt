@@ -29,4 +29,6 @@ returns-4 : tie.Need-returns-4
 returns-4 c = rw (c .before .before .before .before .before .a .given .1, c .before .before .b .given .1, lt-leb _ _ (c .if1 .left))
 
 pub sooner-spec : {M : Type 1} → statement M
-sooner-spec = tie.close (tie.spec enum-known-a enum-told returns enum-known-b enum-told-2 returns-2 returns-3 returns-4)
+sooner-spec =
+    tie.close
+    (tie.spec enum-known-a enum-told returns enum-known-b enum-told-2 returns-2 returns-3 returns-4)

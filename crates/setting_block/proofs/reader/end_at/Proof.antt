@@ -30,12 +30,4 @@ returns c = rw (c .before .before .before .u32-at .ensures, c .before .before .u
 pub end-at-spec : {M : Type 1} → statement M
 end-at-spec =
     tie.close
-    (tie.spec
-    u32-at-requires
-    add-u32-at
-    u32-at-requires-2
-    add-t6
-    shared-slice-read-t8
-    add-t9
-    shared-slice-read-t11
-    returns)
+    (tie.spec u32-at-requires add-u32-at u32-at-requires-2 add-t6 shared-slice-read-t8 add-t9 shared-slice-read-t11 returns)

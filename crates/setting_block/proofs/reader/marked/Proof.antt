@@ -33,12 +33,4 @@ returns-4 c =
 pub marked-spec : {M : Type 1} → statement M
 marked-spec =
     tie.close
-    (tie.spec
-    shared-slice-read-if1
-    returns
-    shared-slice-read-if2
-    returns-2
-    shared-slice-read-if3
-    returns-3
-    shared-slice-read-result
-    returns-4)
+    (tie.spec shared-slice-read-if1 returns shared-slice-read-if2 returns-2 shared-slice-read-if3 returns-3 shared-slice-read-result returns-4)

@@ -6,8 +6,8 @@ use mathlib.Core.Bool.{not}
 use mathlib.Core.List.{List}
 use Prim.Native.Nat.{ℕ}
 use lib.ListN.{take}
-use Rattle.integer.specs.Tests.{Each, none, _&_}
-use Rattle.integer.proofs.TestLaws.{each-append}
+use Rattle.lists.specs.Tests.{Each, none, _&_}
+use Rattle.lists.proofs.TestLaws.{each-append}
 use Rattle.refusal.specs.declared.Verdict.{Verdict}
 use Rattle.refusal.proofs.Stops.{Passed, here, past}
 use Rattle.setting_block.specs.Layout.{spares}
@@ -85,16 +85,5 @@ returns-5 c = answered (c .before .before .before) (c .before .judged .given .1)
 pub read-setting-spec : {M : Type 1} → statement M
 read-setting-spec =
     tie.close
-    (tie.spec
-    returns
-    checked-requires
-    returns-2
-    marked-requires
-    returns-3
-    setting-at-requires
-    spare-fault-requires
-    verdict-beside-requires
-    enum-told
-    enum-known-judged
-    returns-4
-    returns-5)
+    (tie.spec returns checked-requires returns-2 marked-requires returns-3 setting-at-requires spare-fault-requires verdict-beside-requires enum-told
+    enum-known-judged returns-4 returns-5)

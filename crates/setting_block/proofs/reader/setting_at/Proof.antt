@@ -73,7 +73,7 @@ returns c =
             high = high .u16-at2 .ensures i;
             slope1 = fifth .before .before .before .before .u16-at3 .ensures i;
             slope2 = fifth .before .before .before .u16-at4 .ensures i;
-            third = fifth .before .before .u16-at5 .ensures i;
+            knee = fifth .before .before .u16-at5 .ensures i;
             second = fifth .before .u16-at6 .ensures i;
             fifth = fifth .u16-at7 .ensures i;
           };
@@ -82,20 +82,6 @@ returns c =
 pub setting-at-spec : {M : Type 1} → statement M
 setting-at-spec =
     tie.close
-    (tie.spec
-    end-at-requires
-    end-at-requires-2
-    end-at-requires-3
-    end-at-requires-4
-    u16-at-requires
-    u16-at-requires-2
-    u16-at-requires-3
-    u16-at-requires-4
-    u16-at-requires-5
-    u16-at-requires-6
-    u16-at-requires-7
-    shared-slice-read-t15
-    shared-slice-read-t17
-    shared-slice-read-t19
-    u32-at-requires
-    returns)
+    (tie.spec end-at-requires end-at-requires-2 end-at-requires-3 end-at-requires-4 u16-at-requires u16-at-requires-2 u16-at-requires-3
+    u16-at-requires-4 u16-at-requires-5 u16-at-requires-6 u16-at-requires-7 shared-slice-read-t15 shared-slice-read-t17 shared-slice-read-t19
+    u32-at-requires returns)

@@ -7,7 +7,7 @@ use Prim.Native.Nat.{ℕ, _-_, _<_, _≤_}
 use native.Mathlib.Omega.{arith}
 use lib.Dec.{ltb, ltb→lt}
 use lib.ListN.{getD, drop}
-use Rattle.integer.proofs.TestLaws.{each-get, test-each}
+use Rattle.lists.proofs.TestLaws.{each-get, test-each}
 use Rattle.setting.specs.Search.{firstWrong}
 use Rattle.setting_block.specs.Layout.{fewSpares, spares}
 use Rattle.setting_block.proofs.SpareLaws.{few-at, run-at, spare-turn, spare-done}
@@ -101,26 +101,5 @@ returns-3 c = spare-done (c .before .before .before .before .args .s .now) (c .b
 pub spare-fault-spec : {M : Type 1} → statement M
 spare-fault-spec =
     tie.close
-    (tie.spec
-    Inv-loop
-    μ-loop
-    Inv-loop2
-    μ-loop2
-    loop-holds
-    mul-at
-    array-read-at
-    cast-if1
-    shared-slice-read-if1
-    returns
-    add-k
-    loop-less
-    loop-again
-    loop2-holds
-    add-at
-    shared-slice-read-if2
-    cast-t16
-    returns-2
-    add-k-2
-    loop2-less
-    loop2-again
-    returns-3)
+    (tie.spec Inv-loop μ-loop Inv-loop2 μ-loop2 loop-holds mul-at array-read-at cast-if1 shared-slice-read-if1 returns add-k loop-less loop-again
+    loop2-holds add-at shared-slice-read-if2 cast-t16 returns-2 add-k-2 loop2-less loop2-again returns-3)

@@ -55,8 +55,8 @@ seal-requires c κs = search needs
 returns : tie.Need-returns
 unfolding header
 returns c =
-    let third = c .before .before .before in
-    let basic = third .before .before .before .before in
+    let knee = c .before .before .before in
+    let basic = knee .before .before .before .before in
     let e2 = basic .before .before .before in
     let mark = e2 .before .before .before .before in
     c .seal .ensures
@@ -69,30 +69,15 @@ returns c =
     then e2 .put-end3 .ensures
     then basic .before .before .put-end4 .ensures
     then basic .put-16 .ensures
-    then third .before .before .before .put-162 .ensures
-    then third .before .before .put-163 .ensures
-    then third .before .put-164 .ensures
-    then third .put-165 .ensures
+    then knee .before .before .before .put-162 .ensures
+    then knee .before .before .put-163 .ensures
+    then knee .before .put-164 .ensures
+    then knee .put-165 .ensures
     then c .before .before .put-166 .ensures
     then c .before .put-167 .ensures)
 
 pub block-of-spec : {M : Type 1} → statement M
 block-of-spec =
     tie.close
-    (tie.spec
-    slice-aggregate-put
-    put-requires
-    put-32-requires
-    put-end-requires
-    put-end-requires-2
-    put-end-requires-3
-    put-end-requires-4
-    put-16-requires
-    put-16-requires-2
-    put-16-requires-3
-    put-16-requires-4
-    put-16-requires-5
-    put-16-requires-6
-    put-16-requires-7
-    seal-requires
-    returns)
+    (tie.spec slice-aggregate-put put-requires put-32-requires put-end-requires put-end-requires-2 put-end-requires-3 put-end-requires-4
+    put-16-requires put-16-requires-2 put-16-requires-3 put-16-requires-4 put-16-requires-5 put-16-requires-6 put-16-requires-7 seal-requires returns)

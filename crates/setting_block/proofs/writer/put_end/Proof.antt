@@ -26,4 +26,6 @@ returns : tie.Need-returns
 returns c = c .before .before .before .put-32 .ensures then c .before .before .put-322 .ensures then c .put .ensures
 
 pub put-end-spec : {M : Type 1} → statement M
-put-end-spec = tie.close (tie.spec put-32-requires add-put-32 put-32-requires-2 add-put slice-aggregate-put put-requires returns)
+put-end-spec =
+    tie.close
+    (tie.spec put-32-requires add-put-32 put-32-requires-2 add-put slice-aggregate-put put-requires returns)

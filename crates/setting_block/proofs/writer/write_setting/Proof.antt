@@ -1,4 +1,4 @@
--- `setting_block::writer::write_setting` meets its contract: each return is one of the writer's cases, by the verdict and the room that the tests on the way to it tell.
+-- `setting_block::writer::write_setting` meets its contract: each return is one of the writer's cases, by the verdict and the room.
 use borrow.Author.Needs.{needs}
 use mathlib.Core.Path.{refl}
 use native.Mathlib.Omega.{arith}
@@ -36,18 +36,10 @@ returns-3 c =
     let start = room .before .before .before .before .before in
     rw
     (c .before .before .place .ensures, c .before .before .before .block-of .ensures)
-    (written (start .args .v) (start .args .buffer .now) (rw (room .before .enum-told .given .1) at (room .before .before .before .verdict .ensures)) (omega arith))
+    (written (start .args .v) (start .args .buffer .now)
+    (rw (room .before .enum-told .given .1) at (room .before .before .before .verdict .ensures)) (omega arith))
 
 pub write-setting-spec : {M : Type 1} → statement M
 write-setting-spec =
     tie.close
-    (tie.spec
-    verdict-requires
-    enum-known-r
-    returns
-    enum-told
-    returns-2
-    block-of-requires
-    place-requires
-    same-length
-    returns-3)
+    (tie.spec verdict-requires enum-known-r returns enum-told returns-2 block-of-requires place-requires same-length returns-3)

@@ -1,0 +1,47 @@
+-- `relay::accepting::admissible` meets its contract, test by test (Admission.antt).
+use borrow.Author.Needs.{needs}
+use borrow.Author.Tests.{not-true, not-false, lt-leb}
+use lib.Dec.{le→leb}
+use mathlib.Core.Path.{sym, _∙_}
+use Rattle.lists.specs.Tests.{none, _&_}
+use Rattle.relay.proofs.Admission.{is-T, inadmissible, last-admits}
+use Rattle.relay.proofs.accepting.admissible.Statement.{statement}
+use Rattle.relay.proofs.accepting.admissible.Tie as tie
+
+sound-requires : tie.Need-sound-requires
+sound-requires c κs = search needs
+
+returns : tie.Need-returns
+returns c = inadmissible _ 0 (sym (c .before .sound .ensures) ∙ not-true _ (c .if1 .taken))
+
+returns-2 : tie.Need-returns-2
+returns-2 c = inadmissible _ 1 (lt-leb _ _ (c .if2 .taken))
+
+slice-aggregate-numbers-within : tie.Need-slice-aggregate-numbers-within
+slice-aggregate-numbers-within c = search needs
+
+numbers-within-requires : tie.Need-numbers-within-requires
+numbers-within-requires c κs = search needs
+
+returns-3 : tie.Need-returns-3
+returns-3 c = inadmissible _ 2 (sym (c .before .numbers-within .ensures) ∙ not-true _ (c .if3 .taken))
+
+counters-within-requires : tie.Need-counters-within-requires
+counters-within-requires c κs = search needs
+
+returns-4 : tie.Need-returns-4
+returns-4 c =
+    let else3 = c .before in
+    let else2 = else3 .before .before .before in
+    let else1 = else2 .before .before in
+    c .counters-within .ensures
+    ∙ last-admits _
+    (is-T (sym (else1 .before .sound .ensures) ∙ not-false _ (else1 .if1 .left))
+    & le→leb _ _ (else2 .if2 .left)
+    & is-T (sym (else3 .before .numbers-within .ensures) ∙ not-false _ (else3 .if3 .left))
+    & none)
+
+pub admissible-spec : {M : Type 1} → statement M
+admissible-spec =
+    tie.close
+    (tie.spec sound-requires returns returns-2 slice-aggregate-numbers-within numbers-within-requires returns-3 counters-within-requires returns-4)
