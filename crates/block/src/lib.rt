@@ -74,18 +74,18 @@ pub fn place(buffer: &mut [u8], b: [u8; 512])
     bytes::copy(&b[0..512], buffer);
 }
 
-// Whether every byte is zero.
+// Whether every byte is zero, by their sum: a loop with no way out, which the compiler takes many bytes at a time.
 pub fn zeros(s: &[u8]) -> bool
+    requires { ⌜ length (now s) ≤ 512 ⌝ }
     ensures { λ r. ⌜ r ≡ zerosOf (now (s .entry)) ⌝ }
 {
+    let mut sum: u32 = 0;
     let mut at: usize = 0;
     while at < s.len() {
-        if s[at] != 0 {
-            return false;
-        }
+        sum += wider(s[at]);
         at += 1;
     }
-    true
+    sum == 0
 }
 
 // The number of two bytes from a place on.

@@ -33,7 +33,7 @@ pub record SumInput (win : List ℤ) (E k y : ℕ) : Type 0 where
 pub record Measurable (v : Setting) (win : List ℤ) : Type 0 where
   pub ends : Ends (v .ends)
   pub sections : v .thresholds .basic ≤ 2 * v .thresholds .knee
-  pub sized : WindowInput win
+  pub window : WindowInput win
 
 -- and one of the systems
 pub record SystemInput (v : Setting) (win : List ℤ) (y : ℕ) : Type 0 where

@@ -78,5 +78,5 @@ module _ (r : Relay) (xs : List ℤ) (a : admissible r ≡ true) where
         record {
           ends = record { two = s .limits .two; four = s .limits .four };
           sections = omega (arith, s .basic .most, s .knee .least);
-          sized = record { long = long; small = rw e (each-get (window-sized (reach-of (r .setting) xs (is-T i))) zero-sized) };
+          window = record { long = long; small = rw e (each-get (window-sized (reach-of (r .setting) xs (is-T i))) zero-sized) };
         }

@@ -35,7 +35,7 @@ pub fn end_of(v: Setting, z: u8) -> End
     }
 }
 
-// The fields of setting values in block order.
+// The fields of setting values in block order; u0 to u3 say which ends are in use.
 fn fields(v: Setting) -> [Field; 26]
     ensures { λ r. ⌜ r ≡ fieldsOf v ⌝ }
 {

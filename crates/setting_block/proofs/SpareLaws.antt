@@ -1,26 +1,34 @@
 -- A loop over the zero bytes: the search from the place k on gives what the whole search gives.
-use mathlib.Core.Path.{_≡_, ap, _∙_}
-use mathlib.Core.Bool.{cond}
-use mathlib.Core.List.{List}
-use Prim.Native.Nat.{ℕ, _+_, _-_, _<_, _≤_}
+use mathlib.Core.Path.{_≡_, refl, ap, _∙_}
+use mathlib.Core.Bool.{true, cond}
+use mathlib.Core.List.{List, map}
+use Prim.Native.Nat.{ℕ, zero, suc, _+_, _-_, _<_, _≤_}
+use native.Mathlib.Nat.{add-zero}
 use native.Mathlib.Omega.{arith}
-use lib.Dec.{eqb}
-use lib.ListN.{length, getD, drop, length-map, List·getD-map, List·getD-append}
+use lib.Dec.{T, eqb, ltb, ltb→lt}
+use lib.ListN.{length, getD, take, drop, length-map, List·getD-map, List·getD-append}
 use lib.Seq.{getD-append-add}
 use Rattle.lists.specs.Lists.{upTo}
-use Rattle.lists.proofs.Places.{getD-upTo}
+use Rattle.lists.specs.Tests.{each}
+use Rattle.lists.proofs.Places.{getD-upTo, upTo-same, drop-next}
+use Rattle.lists.proofs.TestLaws.{split, is-true, each-get, test-each}
+use Rattle.block.specs.Bytes.{zeros}
 use Rattle.setting.specs.declared.Fault.the-variants.{Nowhere, At}
 use Rattle.setting.specs.Search.{firstWrong}
 use Rattle.setting.proofs.FieldLaws.{search-turn, search-done}
 use Rattle.setting_block.specs.Layout.{fewSpares, spareOffsets, spare, spares}
 
--- ---- the place k: one of the nine, or 65 + k
+-- ---- the place k: one of the few, or 65 + k
 
 abbrev run : List ℕ
 run = upTo 436 (λ i. 74 + i)
 
-pub few-at : (k : ℕ) → k < 9 → getD spareOffsets k 0 ≡ getD fewSpares k 0
-few-at k h = List·getD-append fewSpares run 0 k h
+module _ {few : List ℕ} (e : few ≡ fewSpares) where
+  pub few-at : (k : ℕ) → k < 9 → getD spareOffsets k 0 ≡ getD few k 0
+  few-at k h = rw e (List·getD-append fewSpares run 0 k h)
+
+  pub few-in : (k : ℕ) → getD few k 0 < 512
+  few-in k = rw e (each-get (test-each (λ x. ltb x 512) (λ x. ltb→lt x 512) fewSpares tt) {d = 0} (omega arith) k)
 
 pub run-at : (k : ℕ) → 9 ≤ k → k < 445 → getD spareOffsets k 0 ≡ 65 + k
 run-at k l h =
@@ -44,3 +52,18 @@ module _ (s : List ℕ) (k : ℕ) (inv : firstWrong (drop k (spares s)) ≡ firs
 
   pub spare-done : 445 ≤ k → Nowhere ≡ firstWrong (spares s)
   spare-done h = search-done (spares s) k inv (omega (arith, count))
+
+-- ---- the run from 74 on, where all of it is zero
+
+run-search : (s : List ℕ) (n at : ℕ) → at + n ≤ length s → T (each (λ x. eqb x 0) (take n (drop at s))) →
+    firstWrong (map (spare s) (upTo n (λ i. at + i))) ≡ Nowhere
+unfolding upTo
+run-search s zero at l z = refl
+run-search s (suc n) at l z =
+    let h = split (eqb (getD s at 0) 0) _ (rw (drop-next s at 0 (omega arith)) at z) in
+    let zero-at : eqb (getD s at 0) 0 ≡ true = is-true (h .0) in
+    rw (add-zero at, zero-at, upTo-same n (λ i. at + suc i) (λ i. (at + 1) + i) (λ i j. omega arith)) (run-search s n (at + 1) (omega arith) (h .1))
+
+pub run-zero : (s : List ℕ) → length s ≡ 512 → zeros (take 436 (drop 74 s)) ≡ true → firstWrong (drop 9 (spares s)) ≡ Nowhere
+unfolding spares zeros
+run-zero s l z = run-search s 436 74 (omega arith) (rw z tt)

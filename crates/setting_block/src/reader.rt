@@ -3,7 +3,7 @@
 ghost use mathlib.Core.Path.{_≡_};
 ghost use Prim.Native.Nat.{_+_, _≤_};
 ghost use lib.ListN.{length};
-ghost use Rattle.setting_block.specs.Layout.{endAt, settingAt, marked as markedOf, spares};
+ghost use Rattle.setting_block.specs.Layout.{endAt, settingAt, marked as markedOf, fewSpares, spares};
 ghost use Rattle.setting_block.specs.Calls.{Reads};
 ghost use Rattle.setting.specs.Search.{firstWrong};
 use crate::ReadSetting;
@@ -73,12 +73,19 @@ fn setting_at(s: &[u8]) -> Setting
     }
 }
 
-// The first byte that must be zero and is not: one of nine among the fields, or from 74 on.
+// The zero bytes before 74.
+fn few_spares() -> [u16; 9]
+    ensures { λ r. ⌜ r ≡ fewSpares ⌝ }
+{
+    [7, 22, 23, 34, 35, 46, 47, 58, 59]
+}
+
+// The first byte that must be zero and is not: one of the few, or from 74 on, where most blocks have nothing but zeros.
 fn spare_fault(s: &[u8]) -> Fault
     requires { ⌜ length (now s) ≡ 512 ⌝ }
     ensures { λ r. ⌜ r ≡ firstWrong (spares (now (s .entry))) ⌝ }
 {
-    let few: [u16; 9] = [7, 22, 23, 34, 35, 46, 47, 58, 59];
+    let few = few_spares();
     let mut k: usize = 0;
     while k < 9 {
         let at = few[k];
@@ -86,6 +93,9 @@ fn spare_fault(s: &[u8]) -> Fault
             return Fault::At(at);
         }
         k += 1;
+    }
+    if block::zeros(&s[74..510]) {
+        return Fault::Nowhere;
     }
     while k < 445 {
         let at = 65 + k;

@@ -34,18 +34,15 @@ abbrev pub CalmReply : Setting → Reply → Type 0
 CalmReply v (filling n) = Unit {0}
 CalmReply v (measured a b c) = Calm v a × Calm v b × Calm v c
 
+-- refusal 12 does not arise, and what is given has P
+abbrev pub Without12 : {A : Type 0} → (P : A → Type 0) → Outcome A → Type 0
+Without12 P (gives a) = P a
+Without12 P (declines n) = n ≢ 12
+
 -- refusal 12 does not arise, and a Measured answer is calm
-abbrev pub CalmOutcome : Setting → Outcome Reply → Type 0
-CalmOutcome v (gives r) = CalmReply v r
-CalmOutcome v (declines n) = n ≢ 12
-
-abbrev pub Not12 : {A : Type 0} → Outcome A → Type 0
-Not12 (gives a) = Unit {0}
-Not12 (declines n) = n ≢ 12
-
 abbrev pub CalmCall : Setting → Relay → Call → Type 0
-CalmCall v r (sample xs) = CalmOutcome v (sampleReply r xs)
-CalmCall v r reset = Not12 (resetReply r)
+CalmCall v r (sample xs) = Without12 (CalmReply v) (sampleReply r xs)
+CalmCall v r reset = Without12 (λ done. Unit {0}) (resetReply r)
 
 -- a record with no latch
 abbrev pub NoLatch : Relay → Type 0

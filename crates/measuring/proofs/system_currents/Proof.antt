@@ -15,7 +15,7 @@ sums-requires c κs = search needs
 u-sized : (c : tie.After-sums) → CycleInput (c .sums .result)
 u-sized c =
     let pre = c .before .pre .measurable in
-    sized _ (c .sums .ensures) (sums-small (pre .sized) _ (pre .ends .four) (system (c .before .args .y)))
+    sized _ (c .sums .ensures) (sums-small (pre .window) _ (pre .ends .four) (system (c .before .args .y)))
 
 amplitude-requires : tie.Need-amplitude-requires
 amplitude-requires c κs = u-sized c

@@ -27,7 +27,7 @@ difference-requires : tie.Need-difference-requires Inv-loop μ-loop
 difference-requires c κs = search needs
 
 amplitude-requires : tie.Need-amplitude-requires Inv-loop μ-loop
-amplitude-requires c κs = sized _ (c .difference .ensures) (difference-small (c .before .before .pre .measurable .sized) (system (c .before .before .args .y)))
+amplitude-requires c κs = sized _ (c .difference .ensures) (difference-small (c .before .before .pre .measurable .window) (system (c .before .before .args .y)))
 
 returns : tie.Need-returns Inv-loop μ-loop
 unfolding twiceRestraint
@@ -48,7 +48,7 @@ series-requires c κs = search needs
 amplitude-requires-2 : tie.Need-amplitude-requires-2 Inv-loop μ-loop
 amplitude-requires-2 c κs =
     let start = c .before .before .before .before in
-    sized _ (c .series .ensures) (series-small (start .pre .measurable .sized) _ (system (start .args .y)))
+    sized _ (c .series .ensures) (series-small (start .pre .measurable .window) _ (system (start .args .y)))
 
 add-r : tie.Need-add-r Inv-loop μ-loop
 add-r c = search needs

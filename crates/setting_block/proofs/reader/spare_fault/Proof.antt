@@ -3,14 +3,12 @@
 use borrow.Author.Needs.{needs}
 use borrow.Author.Tests.{eq-eqb, ne-eqb}
 use mathlib.Core.Path.{_≡_, sym, _∙_}
-use Prim.Native.Nat.{ℕ, _-_, _<_, _≤_}
+use Prim.Native.Nat.{_-_, _≤_}
 use native.Mathlib.Omega.{arith}
-use lib.Dec.{ltb, ltb→lt}
-use lib.ListN.{getD, drop}
-use Rattle.lists.proofs.TestLaws.{each-get, test-each}
+use lib.ListN.{drop}
 use Rattle.setting.specs.Search.{firstWrong}
-use Rattle.setting_block.specs.Layout.{fewSpares, spares}
-use Rattle.setting_block.proofs.SpareLaws.{few-at, run-at, spare-turn, spare-done}
+use Rattle.setting_block.specs.Layout.{spares}
+use Rattle.setting_block.proofs.SpareLaws.{few-at, few-in, run-at, run-zero, spare-turn, spare-done}
 use Rattle.setting_block.proofs.reader.spare_fault.Statement.{statement}
 use Rattle.setting_block.proofs.reader.spare_fault.Tie as tie
 
@@ -26,6 +24,9 @@ Inv-loop2 s k₀ k = (9 ≤ k) × (k ≤ 445) × (firstWrong (drop k (spares s))
 abbrev μ-loop2 : tie.MeasureT-loop2
 μ-loop2 s k₀ k = 445 - k
 
+few-spares-requires : tie.Need-few-spares-requires Inv-loop μ-loop Inv-loop2 μ-loop2
+few-spares-requires c κs = search needs
+
 loop-holds : tie.Need-loop-holds Inv-loop μ-loop Inv-loop2 μ-loop2
 loop-holds c = search needs
 
@@ -35,21 +36,20 @@ mul-at c = search needs
 array-read-at : tie.Need-array-read-at Inv-loop μ-loop Inv-loop2 μ-loop2
 array-read-at c = search needs
 
--- each of the nine places lies in the block
-few-in : (k : ℕ) → getD fewSpares k 0 < 512
-few-in k = each-get (test-each (λ x. ltb x 512) (λ x. ltb→lt x 512) fewSpares tt) {d = 0} (omega arith) k
-
 cast-if1 : tie.Need-cast-if1 Inv-loop μ-loop Inv-loop2 μ-loop2
-cast-if1 c = omega (arith, few-in (c .before .loop .k))
+cast-if1 c = search needs
 
 shared-slice-read-if1 : tie.Need-shared-slice-read-if1 Inv-loop μ-loop Inv-loop2 μ-loop2
-shared-slice-read-if1 c = omega (arith, few-in (c .before .before .loop .k))
+shared-slice-read-if1 c =
+    let l = c .before .before in
+    omega (arith, few-in (l .before .few-spares .ensures) (l .loop .k))
 
 returns : tie.Need-returns Inv-loop μ-loop Inv-loop2 μ-loop2
 returns c =
     let l = c .before .before .before in
-    let k = l .loop .k in
-    sym (spare-turn (l .before .args .s .now) k (l .loop .inv .1) (few-at k (search needs)) (omega arith) ∙ rw (ne-eqb _ _ (c .if1 .taken)))
+    let place = few-at (l .before .few-spares .ensures) (l .loop .k) (search needs) in
+    let turn = spare-turn (l .before .before .before .args .s .now) (l .loop .k) (l .loop .inv .1) place (omega arith) in
+    sym (turn ∙ rw (ne-eqb _ _ (c .if1 .taken)))
 
 add-k : tie.Need-add-k Inv-loop μ-loop Inv-loop2 μ-loop2
 add-k c = search needs
@@ -60,8 +60,28 @@ loop-less c = search needs
 loop-again : tie.Need-loop-again Inv-loop μ-loop Inv-loop2 μ-loop2
 loop-again c =
     let l = c .before .before .before in
-    let k = l .loop .k in
-    (search needs, sym (spare-turn (l .before .args .s .now) k (l .loop .inv .1) (few-at k (search needs)) (omega arith) ∙ rw (eq-eqb _ _ (c .if1 .left))))
+    let place = few-at (l .before .few-spares .ensures) (l .loop .k) (search needs) in
+    let turn = spare-turn (l .before .before .before .args .s .now) (l .loop .k) (l .loop .inv .1) place (omega arith) in
+    (search needs, sym (turn ∙ rw (eq-eqb _ _ (c .if1 .left))))
+
+sub-zeros : tie.Need-sub-zeros Inv-loop μ-loop Inv-loop2 μ-loop2
+sub-zeros c = search needs
+
+part-zeros-start : tie.Need-part-zeros-start Inv-loop μ-loop Inv-loop2 μ-loop2
+part-zeros-start c = search needs
+
+part-zeros-end : tie.Need-part-zeros-end Inv-loop μ-loop Inv-loop2 μ-loop2
+part-zeros-end c = search needs
+
+zeros-requires : tie.Need-zeros-requires Inv-loop μ-loop Inv-loop2 μ-loop2
+zeros-requires c κs = search needs
+
+returns-2 : tie.Need-returns-2 Inv-loop μ-loop Inv-loop2 μ-loop2
+returns-2 c =
+    let l = c .before .before .before .before in
+    let start = l .before .before .before in
+    let e : l .loop .k ≡ 9 = omega arith in
+    sym (run-zero (start .args .s .now) (start .pre) (sym (c .before .zeros .ensures) ∙ c .if2 .taken)) ∙ (rw e at (l .loop .inv .1))
 
 loop2-holds : tie.Need-loop2-holds Inv-loop μ-loop Inv-loop2 μ-loop2
 loop2-holds c = search needs
@@ -69,18 +89,19 @@ loop2-holds c = search needs
 add-at : tie.Need-add-at Inv-loop μ-loop Inv-loop2 μ-loop2
 add-at c = search needs
 
-shared-slice-read-if2 : tie.Need-shared-slice-read-if2 Inv-loop μ-loop Inv-loop2 μ-loop2
-shared-slice-read-if2 c = search needs
+shared-slice-read-if3 : tie.Need-shared-slice-read-if3 Inv-loop μ-loop Inv-loop2 μ-loop2
+shared-slice-read-if3 c = search needs
 
-cast-t16 : tie.Need-cast-t16 Inv-loop μ-loop Inv-loop2 μ-loop2
-cast-t16 c = search needs
+cast-t22 : tie.Need-cast-t22 Inv-loop μ-loop Inv-loop2 μ-loop2
+cast-t22 c = search needs
 
-returns-2 : tie.Need-returns-2 Inv-loop μ-loop Inv-loop2 μ-loop2
-returns-2 c =
+returns-3 : tie.Need-returns-3 Inv-loop μ-loop Inv-loop2 μ-loop2
+returns-3 c =
     let l = c .before .before .before in
     let k = l .loop2 .k in
-    let turn = spare-turn (l .before .before .before .args .s .now) k (l .loop2 .inv .2) (run-at k (search needs) (search needs)) (search needs) in
-    sym (turn ∙ rw (ne-eqb _ _ (c .if2 .taken)))
+    let start = l .before .before .before .before .before .before .before .before in
+    let turn = spare-turn (start .args .s .now) k (l .loop2 .inv .2) (run-at k (search needs) (search needs)) (search needs) in
+    sym (turn ∙ rw (ne-eqb _ _ (c .if3 .taken)))
 
 add-k-2 : tie.Need-add-k-2 Inv-loop μ-loop Inv-loop2 μ-loop2
 add-k-2 c = search needs
@@ -92,14 +113,19 @@ loop2-again : tie.Need-loop2-again Inv-loop μ-loop Inv-loop2 μ-loop2
 loop2-again c =
     let l = c .before .before .before in
     let k = l .loop2 .k in
-    let turn = spare-turn (l .before .before .before .args .s .now) k (l .loop2 .inv .2) (run-at k (search needs) (search needs)) (search needs) in
-    (search needs, search needs, sym (turn ∙ rw (eq-eqb _ _ (c .if2 .left))))
+    let start = l .before .before .before .before .before .before .before .before in
+    let turn = spare-turn (start .args .s .now) k (l .loop2 .inv .2) (run-at k (search needs) (search needs)) (search needs) in
+    (search needs, search needs, sym (turn ∙ rw (eq-eqb _ _ (c .if3 .left))))
 
-returns-3 : tie.Need-returns-3 Inv-loop μ-loop Inv-loop2 μ-loop2
-returns-3 c = spare-done (c .before .before .before .before .args .s .now) (c .before .loop2 .k) (c .before .loop2 .inv .2) (search needs)
+returns-4 : tie.Need-returns-4 Inv-loop μ-loop Inv-loop2 μ-loop2
+returns-4 c =
+    let l = c .before in
+    let start = l .before .before .before .before .before .before .before .before in
+    spare-done (start .args .s .now) (l .loop2 .k) (l .loop2 .inv .2) (search needs)
 
 pub spare-fault-spec : {M : Type 1} → statement M
 spare-fault-spec =
     tie.close
-    (tie.spec Inv-loop μ-loop Inv-loop2 μ-loop2 loop-holds mul-at array-read-at cast-if1 shared-slice-read-if1 returns add-k loop-less loop-again
-    loop2-holds add-at shared-slice-read-if2 cast-t16 returns-2 add-k-2 loop2-less loop2-again returns-3)
+    (tie.spec Inv-loop μ-loop Inv-loop2 μ-loop2 few-spares-requires loop-holds mul-at array-read-at cast-if1 shared-slice-read-if1 returns add-k
+    loop-less loop-again sub-zeros part-zeros-start part-zeros-end zeros-requires returns-2 loop2-holds add-at shared-slice-read-if3 cast-t22
+    returns-3 add-k-2 loop2-less loop2-again returns-4)
