@@ -1,5 +1,5 @@
--- The cases of the sample and the reset call: a set that is declined, by the first row that applies, and one that is accepted, which none does.
-use mathlib.Core.Path.{_≡_}
+-- The cases of the calls: a start that is accepted; a set that is declined, by the first row that applies, and one that is accepted, which none does.
+use mathlib.Core.Path.{_≡_, sym, ap, _∙_}
 use mathlib.Core.Logic.{_≢_}
 use mathlib.Core.Bool.{true, false, not}
 use mathlib.Core.List.{List}
@@ -7,15 +7,28 @@ use Prim.Native.Nat.{ℕ}
 use lib.Dec.{T, eqb}
 use lib.IntN.{ℤ}
 use Rattle.lists.specs.Tests.{Each, _&_}
-use Rattle.refusal.specs.Refusals.{Outcome, gives, declines}
+use Rattle.refusal.specs.declared.Verdict.{Verdict}
+use Rattle.refusal.specs.Refusals.{Outcome, gives, declines, done, outcomeOf}
 use Rattle.refusal.proofs.Stops.{Passed, Stops, later, Stopped, stops-declines, passed-gives, none-passed, stopped}
 use Rattle.setting.specs.declared.Setting.{Setting}
 use Rattle.state.specs.declared.Window.{Window}
 use Rattle.relay.specs.declared.Relay.{Relay}
 use Rattle.relay.specs.declared.Sampled.{Sampled}
-use Rattle.relay.specs.Record.{admissible}
+use Rattle.relay.specs.declared.Returned.{Returned}
+use Rattle.relay.specs.Record.{fresh, admissible}
 use Rattle.relay.specs.Calls.{setRows, accepted, sampleRows, windowAfter, replyNow, relayNow, sampleReply, Gives, Samples}
-use Rattle.relay.specs.Calls.{resetRows, cleared, resetReply, resetRelay}
+use Rattle.relay.specs.Calls.{resetRows, cleared, resetReply, resetRelay, startReply, Starts}
+
+-- ---- a start that is accepted
+
+pub record Accepted (v : Setting) (r : Relay) : Type 0 where
+  pub given : startReply v ≡ done
+  pub relay : r ≡ fresh v
+
+pub start-accepted : {v : Setting} {s : Returned} → Starts v s → s .verdict ≡ Verdict.Accepted → Accepted v (s .relay)
+start-accepted {v} s e =
+    let o : startReply v ≡ done = sym (s .reply) ∙ ap outcomeOf e in
+    record { given = o; relay = rw o at (s .relay) }
 
 -- ---- any record
 
