@@ -19,12 +19,6 @@ fn u64_at(s: &[u8], at: usize) -> u64
     low + 4294967296 * high
 }
 
-fn print_signed(x: i64) {
-    let mut buffer = [0u8; 32];
-    let at = text::put_signed(&mut buffer, 0, x);
-    text::flush(&buffer, at);
-}
-
 fn print_nearest(minus: bool, a: u64, b: u64) {
     if 1152921504606846976 < a {
         return;
@@ -37,10 +31,10 @@ fn print_nearest(minus: bool, a: u64, b: u64) {
     }
     let n = a as i64;
     if minus {
-        print_signed(integer::nearest(0 - n, b));
+        text::print_number(integer::nearest(0 - n, b));
         return;
     }
-    print_signed(integer::nearest(n, b));
+    text::print_number(integer::nearest(n, b));
 }
 
 fn next() -> bool {

@@ -42,8 +42,8 @@ nearest-requires c κs =
     let h : a ≤ 2 ^ 60 = c .before .before .before .if1 .left in
     rw (read a h, back-within (minus a h) w64 refl) (record { top = minus a h; some = omega (arith, c .before .before .if2 .left); few = c .before .if3 .left })
 
-print-signed-requires : tie.Need-print-signed-requires
-print-signed-requires c κs = search needs
+print-number-requires : tie.Need-print-number-requires
+print-number-requires c κs = search needs
 
 returns-4 : tie.Need-returns-4
 returns-4 c = search needs
@@ -54,8 +54,8 @@ nearest-requires-2 c κs =
     let h : a ≤ 2 ^ 60 = c .before .before .before .if1 .left in
     rw (read a h) (record { top = record { size = h }; some = omega (arith, c .before .before .if2 .left); few = c .before .if3 .left })
 
-print-signed-requires-2 : tie.Need-print-signed-requires-2
-print-signed-requires-2 c κs = search needs
+print-number-requires-2 : tie.Need-print-number-requires-2
+print-number-requires-2 c κs = search needs
 
 returns-5 : tie.Need-returns-5
 returns-5 c = search needs
@@ -63,5 +63,5 @@ returns-5 c = search needs
 pub print-nearest-spec : {M : Type 1} → statement M
 print-nearest-spec =
     tie.close
-    (tie.spec returns returns-2 returns-3 cast-n sub-nearest nearest-requires print-signed-requires returns-4 nearest-requires-2
-    print-signed-requires-2 returns-5)
+    (tie.spec returns returns-2 returns-3 cast-n sub-nearest nearest-requires print-number-requires returns-4 nearest-requires-2
+    print-number-requires-2 returns-5)

@@ -1,9 +1,12 @@
--- `text::magnitude` is safe: −1 − x of a negative x is at least 0 and below 2 ^ 63.
+-- `text::magnitude` meets its contract: −1 − x of a negative x is at least 0 and below 2 ^ 63.
 use borrow.Author.Needs.{needs}
 use native.Mathlib.Omega.{arith}
 use mathlib.Core.Path.{_≡_}
 use mathlib.Core.Bool.{true, false}
-use lib.IntN.{pos, negsuc, _-ℤ_}
+use Prim.Native.Nat.{suc, _+_}
+use borrow.Author.Tests.{le-ltb}
+use lib.Dec.{ltb}
+use lib.IntN.{ℤ, pos, negsuc, natAbs, _-ℤ_}
 use lib.Signed.{ltZ, natAbs-le}
 use Rattle.integer.proofs.Reading.{ints, arithℤ}
 use Rattle.integer.proofs.Machine.{back}
@@ -30,8 +33,14 @@ add-result c =
 cast-result-2 : tie.Need-cast-result-2
 cast-result-2 c = rw (back (c .before .fits .x)) (simp ints (omega (arithℤ, simp ints at (positive c))))
 
+size : (x : ℤ) → ltZ x (pos 0) ≡ true → 1 + natAbs (negsuc 0 -ℤ x) ≡ natAbs x
+size (pos n) e = absurd (omega (arith, simp ints at e))
+size (negsuc n) e =
+    let more : ltb (suc n) 1 ≡ false = le-ltb (suc n) 1 (omega arith) in
+    rw more (omega arith)
+
 returns : tie.Need-returns
-returns c = search needs
+returns c = rw (back (sub-result c), back (c .before .fits .x)) (size (c .before .args .x) (negative c))
 
 returns-2 : tie.Need-returns-2
 returns-2 c = search needs
