@@ -11,11 +11,14 @@ use Rattle.matching.specs.Sets.{System, sysA, sysB, sysC}
 use Rattle.state.specs.declared.Element.{Element}
 use Rattle.state.specs.State.{elementOf, perSystem, counterAfter, elementAfter, countersWithin}
 
--- what holds of each system's element
+-- the element of each system, and what holds of it
+pub element-of : (f : System → Element) (l : System) → elementOf (perSystem f) l ≡ f l
+element-of f sysA = refl
+element-of f sysB = refl
+element-of f sysC = refl
+
 pub per-system : (P : Element → Type 0) (f : System → Element) → ((l : System) → P (f l)) → (l : System) → P (elementOf (perSystem f) l)
-per-system P f h sysA = h sysA
-per-system P f h sysB = h sysB
-per-system P f h sysC = h sysC
+per-system P f h l = rw (element-of f l) (h l)
 
 -- the test of refusal 12 on the counters
 pub counters-test : (M : ℕ) (f : System → Element) → ((l : System) → f l .count ≤ M) → T (hold (countersWithin M (perSystem f)))
@@ -37,4 +40,4 @@ element-≤ M b e = counter-≤ M b (e .count)
 -- a set that does not count sets no latch
 pub no-latch-after : (M : ℕ) (e : Element) {b : Bool} → b ≡ false → e .latch ≡ false → elementAfter M b e .latch ≡ false
 unfolding elementAfter
-no-latch-after M e p q = rw (p, q)
+no-latch-after M e p q = simp (p, q)

@@ -7,6 +7,7 @@ ghost use Prim.Native.Nat.{_+_, _≤_};
 ghost use lib.ListN.{take, drop};
 ghost use Rattle.lists.specs.Tests.{each, hold};
 ghost use Rattle.state.specs.State.{numberWithin, countersWithin, Files, counterAfter, elementAfter, latchSum};
+ghost use Rattle.state.specs.Rows.{LatchedInARow, CountedInARow};
 
 // Twelve places of matched numbers: number 12k + 3z + y is that of set k (oldest 0), end z and system y. `fill` places are held.
 pub struct Window {
@@ -138,6 +139,11 @@ pub fn element_after(confirm: u8, counts: bool, e: Element) -> Element
         latch: count == confirm,
     }
 }
+
+// The latch and the counter over any number of sets, by rows of sets that count: no code, the statements and their proofs.
+pub fn in_a_row()
+    ensures { λ _. ⌜ LatchedInARow × CountedInARow ⌝ }
+{}
 
 fn bit(b: bool, n: u32) -> u32
     ensures { λ r. ⌜ r ≡ cond b n 0 ⌝ }

@@ -1,20 +1,14 @@
 -- `state::element_after` meets its contract: not counting, counting with the latch set already, and counting.
 use borrow.Author.Needs.{needs}
 use borrow.Author.Tests.{not-true, not-false}
-use mathlib.Core.Path.{_≡_, sym}
-use mathlib.Core.Bool.{false, or-false}
-use Prim.Native.Nat.{ℕ}
-use Rattle.state.specs.declared.Element.{Element}
+use mathlib.Core.Bool.{or-false}
 use Rattle.state.specs.State.{elementAfter}
 use Rattle.state.proofs.element_after.Statement.{statement}
 use Rattle.state.proofs.element_after.Tie as tie
 
-not-counting : (M : ℕ) (e : Element) → _≡_ {A = Element} (record { count = 0; latch = e .latch }) (elementAfter M false e)
-unfolding elementAfter
-not-counting M e = λ i. record { count = 0; latch = sym (or-false (e .latch)) i }
-
 returns : tie.Need-returns
-returns c = rw (not-true (c .before .args .counts) (c .if1 .taken)) (not-counting (c .before .args .confirm) (c .before .args .e))
+unfolding elementAfter
+returns c = simp (not-true (c .before .args .counts) (c .if1 .taken), or-false (c .before .args .e .latch))
 
 grown-requires : tie.Need-grown-requires
 grown-requires c κs = search needs
