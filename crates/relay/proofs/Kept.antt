@@ -1,6 +1,6 @@
 -- The records of a relay started on v: admissible, with v for their setting. A fresh one is so, and each call keeps it so. With such a record a call does
 -- one of three things (`Step`): it files an accepted set, declines a set, or clears counters and latches.
-use mathlib.Core.Path.{_≡_, refl}
+use mathlib.Core.Path.{_≡_, refl, _∙_}
 use mathlib.Core.Bool.{Bool, true, false}
 use mathlib.Core.List.{List}
 use Prim.Native.Nat.{ℕ}
@@ -14,6 +14,7 @@ use Rattle.refusal.specs.Refusals.{gives}
 use Rattle.setting.specs.declared.Setting.{Setting}
 use Rattle.setting.specs.Values.{startable}
 use Rattle.matching.specs.Sets.{numbers}
+use Rattle.state.specs.declared.Window.{Window}
 use Rattle.state.specs.State.{elementOf, perSystem, clear, countersWithin}
 use Rattle.state.proofs.Placed.{sized-test, windowWith-fill}
 use Rattle.state.proofs.Elements.{counters-test, element-≤}
@@ -24,6 +25,17 @@ use Rattle.relay.specs.Lists.{Call, sample, reset, after}
 use Rattle.relay.proofs.Admission.{is-T, admitted, admissible-of}
 use Rattle.relay.proofs.Cases.{Other, sample-gives, sample-declines, reset-leaves, reset-gives}
 use Rattle.relay.proofs.Ready.{reach, window-sized}
+
+-- ---- neither an accepted set nor a reset changes the setting
+
+module _ (r : Relay) where
+  now-setting : (w : Window) → relayNow r w .setting ≡ r .setting
+  unfolding relayNow
+  now-setting w = refl
+
+  cleared-setting : cleared r .setting ≡ r .setting
+  unfolding cleared
+  cleared-setting = refl
 
 -- ---- records that are admissible
 
@@ -75,10 +87,10 @@ step {v} {r} h (sample xs) = by (accepted v xs) refl
     by false e = let o = sample-declines v r xs (h .ok) (h .same) e in rw (o .is) (declines e o)
 
 valid-step : {v : Setting} {r s : Relay} {c : Call} → Valid v r → Step v r c s → Valid v s
-unfolding relayNow cleared
-valid-step {r = r} h (files {xs = xs} e o) = record { ok = now-admissible r (h .ok) xs (rw (h .same) (is-T e)); same = h .same }
+valid-step {r = r} h (files {xs = xs} e o) =
+    record { ok = now-admissible r (h .ok) xs (rw (h .same) (is-T e)); same = now-setting r (windowAfter r xs) ∙ h .same }
 valid-step h (declines e o) = h
-valid-step {r = r} h (clears o) = record { ok = cleared-admissible r (h .ok); same = h .same }
+valid-step {r = r} h (clears o) = record { ok = cleared-admissible r (h .ok); same = cleared-setting r ∙ h .same }
 
 pub valid-after : {v : Setting} {r : Relay} → Valid v r → (c : Call) → Valid v (after r c)
 valid-after h c = valid-step h (step h c)

@@ -79,6 +79,7 @@ module _ (v : Setting) (h : T (allRight (fields v))) where
 
 pub record Storable (v : Setting) : Type 0 where
   pub limits : Limits v
+  pub confirm : Ranged 1 24 (v .confirm)
   pub power : Ranged 1 50000 (v .power)
   pub bounded : (z : ℕ) → z < 4 → Bounded (endOf v z)
   pub basic : Ranged 100 2500 (v .thresholds .basic)
@@ -102,6 +103,7 @@ storable-is v h =
     let low = each-upTo (λ k. leZ k (pos 1048576)) (v .ends) (factor v) (not-not (each (λ k. leZ k (pos 1048576)) (factors v)) (row 6)) in
     record {
       limits = limits-of v f (leb→le 2 (v .ends) (ends .0)) (leb→le (v .ends) 4 (ends .1));
+      confirm = ranged (field-at v f 1);
       power = power-ranged v f;
       bounded = bounded v f;
       basic = ranged (field-at v f 19);

@@ -15,10 +15,10 @@ use Rattle.relay.specs.declared.Relay.{Relay}
 use Rattle.relay.specs.Record.{fresh}
 use Rattle.relay.specs.Calls.{windowAfter, replyNow, relayNow, cleared}
 use Rattle.relay.specs.Lists.{Call, run}
-use Rattle.relay.proofs.Cases.{sample-gives}
+use Rattle.relay.proofs.Cases.{sample-gives, reset-gives}
 use Rattle.relay.proofs.Kept.{Valid, Step, files, declines, clears}
 use Rattle.relay.proofs.Induction.{Invariant, along, last, any-call}
-use Rattle.stability.specs.Lists.{filing, filed, last12, windowOf, WindowFiled, Answered}
+use Rattle.stability.specs.Lists.{filing, filed, last12, windowOf, SettingKept, WindowFiled, Answered, ResetAccepted}
 use Rattle.stability.proofs.Filing.{Twelve, filed-window}
 
 pub record Filed (ws : List (List ℤ)) (r : Relay) : Type 0 where
@@ -47,6 +47,10 @@ invariant v =
 after-run : (v : Setting) → T (startable v) → (cs : List Call) → Valid v (run (fresh v) cs) × Filed (filed v cs) (run (fresh v) cs)
 after-run v s cs = last (invariant v) (along (invariant v) s (any-call cs))
 
+pub setting-kept : SettingKept
+unfolding SettingKept
+setting-kept v s cs = after-run v s cs .0 .same
+
 pub window-filed : WindowFiled
 unfolding WindowFiled
 window-filed v s cs = after-run v s cs .1 .window
@@ -57,3 +61,7 @@ answered v s cs xs t =
     let (h, f) = after-run v s cs in
     let r = run (fresh v) cs in
     sample-gives v r xs (h .ok) (h .same) (is-true t) ∙ ap (λ (w : Window). gives (replyNow r w)) (window-now h f xs)
+
+pub reset-accepted : ResetAccepted
+unfolding ResetAccepted
+reset-accepted v s cs = reset-gives (run (fresh v) cs) (after-run v s cs .0 .ok)

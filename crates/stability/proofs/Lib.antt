@@ -1,5 +1,6 @@
 -- Lists of sets laid out flat, the window of the last twelve, the theorems over lists of calls, and the examples beside them.
 mod Filing
 mod Demand2
+mod TripLaws
 mod Demand3
 mod Through

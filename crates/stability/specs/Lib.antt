@@ -1,4 +1,5 @@
 pub mod Lists
+pub mod Trips
 pub mod Stability
 pub mod Example
 pub mod ThroughFault

@@ -12,7 +12,7 @@ use Rattle.setting.specs.Values.{startable}
 use Rattle.matching.specs.Sets.{numbers}
 use Rattle.state.specs.declared.Window.{Window}
 use Rattle.relay.specs.Record.{fresh}
-use Rattle.relay.specs.Calls.{accepted, replyNow, sampleReply}
+use Rattle.relay.specs.Calls.{accepted, replyNow, sampleReply, resetReply}
 use Rattle.relay.specs.Lists.{Call, sample, reset, run}
 
 -- The accepted sets of a list, by their matched numbers, in order: those so far, and what a call adds.
@@ -31,6 +31,10 @@ last12 l = drop (length l - 12) l
 unfoldable pub windowOf : List (List ℤ) → Window
 windowOf ws = record { values = flatten ws ++ replicate (144 - 12 * length ws) (pos 0); fill = length ws }
 
+-- After any list of calls the record holds the setting that it was started on.
+unfoldable pub SettingKept : Type 0
+SettingKept = (v : Setting) → T (startable v) → (cs : List Call) → run (fresh v) cs .setting ≡ v
+
 -- After any list of calls the window is the one of the last accepted sets, twelve at most.
 unfoldable pub WindowFiled : Type 0
 WindowFiled = (v : Setting) → T (startable v) → (cs : List Call) → run (fresh v) cs .window ≡ windowOf (last12 (filed v cs))
@@ -40,3 +44,7 @@ unfoldable pub Answered : Type 0
 Answered =
     (v : Setting) → T (startable v) → (cs : List Call) (xs : List ℤ) → T (accepted v xs) →
     sampleReply (run (fresh v) cs) xs ≡ gives (replyNow (run (fresh v) cs) (windowOf (last12 (filed v cs ++ (numbers v xs ∷ [])))))
+
+-- And the next reset is accepted.
+unfoldable pub ResetAccepted : Type 0
+ResetAccepted = (v : Setting) → T (startable v) → (cs : List Call) → resetReply (run (fresh v) cs) ≡ gives tt

@@ -1,13 +1,20 @@
 // The theorems over lists of sample and reset calls from a fresh relay: no code, the statements and their proofs.
 
-ghost use Rattle.stability.specs.Lists.{WindowFiled, Answered};
+ghost use Rattle.stability.specs.Lists.{SettingKept, WindowFiled, Answered, ResetAccepted};
+ghost use Rattle.stability.specs.Trips.{Latched, Counted};
 ghost use Rattle.stability.specs.Stability.{Stability};
 ghost use Rattle.stability.specs.Example.{FaultUnhealthy};
 ghost use Rattle.stability.specs.ThroughFault.{ThroughFault};
 
-// Demand 2 over the list: the window is that of the last twelve accepted sets, and the answers are those that the definitions give for it.
+// Demand 2 over the list: the setting is kept, the window is that of the last twelve accepted sets, a set is answered as the definitions give for it,
+// and a reset is accepted.
 pub fn filed()
-    ensures { λ _. ⌜ WindowFiled × Answered ⌝ }
+    ensures { λ _. ⌜ SettingKept × WindowFiled × Answered × ResetAccepted ⌝ }
+{}
+
+// Latches and counters over the list: they are those of the sets in a row that counted since the last reset.
+pub fn trips()
+    ensures { λ _. ⌜ Latched × Counted ⌝ }
 {}
 
 // Demand 3: no start, no trip, and D within its limit, over every list of calls whose accepted sets are those of a healthy bank.

@@ -1,0 +1,61 @@
+-- Latches and counters over lists of calls. The invariant: the window is that of the last twelve sets filed (Demand2.antt), so a system counts at a set
+-- by the record where it does by the trail; and its element is the one after the sets of the trail. Then the laws of sets in a row, of crate `state`.
+use mathlib.Core.Path.{_≡_}
+use mathlib.Core.List.{List, []}
+use lib.Dec.{T}
+use Rattle.setting.specs.declared.Setting.{Setting}
+use Rattle.setting.specs.Values.{startable}
+use Rattle.setting.proofs.LimitLaws.{startable-is}
+use Rattle.matching.specs.Sets.{System}
+use Rattle.state.specs.State.{elementOf, clear}
+use Rattle.state.specs.Rows.{afterSets, LatchedInARow, CountedInARow}
+use Rattle.state.proofs.Elements.{element-of}
+use Rattle.state.proofs.RowLaws.{latched-in-a-row, counted-in-a-row}
+use Rattle.relay.specs.declared.Relay.{Relay}
+use Rattle.relay.specs.Record.{fresh}
+use Rattle.relay.specs.Calls.{windowAfter, elementNow, relayNow, cleared}
+use Rattle.relay.specs.Lists.{Call}
+use Rattle.relay.proofs.Kept.{Valid, Step, files, declines, clears}
+use Rattle.relay.proofs.Induction.{Invariant, along, last, any-call}
+use Rattle.stability.specs.Trips.{Trail, trailing, trail, elementAt, Latched, Counted}
+use Rattle.stability.proofs.Demand2.{Filed, filed-fresh, window-now, filed-kept}
+
+module _ (v : Setting) (l : System) where
+  record Traced (t : Trail) (r : Relay) : Type 0 where
+    filed : Filed (t .sets) r
+    element : elementOf (r .trip) l ≡ afterSets (v .confirm) (t .counted)
+
+  traced-fresh : Traced (trail v l []) (fresh v)
+  unfolding fresh
+  traced-fresh = record { filed = filed-fresh v; element = element-of (λ l. clear) l }
+
+  element-kept : {t : Trail} {r s : Relay} {c : Call} → Valid v r → Traced t r → Step v r c s →
+      elementOf (s .trip) l ≡ afterSets (v .confirm) (trailing v l t c .counted)
+  unfolding relayNow cleared
+  element-kept {r = r} h k (files {xs = xs} e o) =
+      rw (e, element-of (elementNow r (windowAfter r xs)) l, window-now h (k .filed) xs, h .same, k .element)
+  element-kept h k (declines e o) = rw e (k .element)
+  element-kept h k (clears o) = element-of (λ l. clear) l
+
+  abbrev invariant : Invariant v (λ c. Unit {0})
+  invariant =
+      record {
+        State = Trail;
+        start = trail v l [];
+        next = trailing v l;
+        Inv = Traced;
+        Shown = λ t r c. Unit {0};
+        first = traced-fresh;
+        keeps = λ h k p st. (record { filed = filed-kept h (k .filed) st; element = element-kept h k st }, tt);
+      }
+
+  element-after : T (startable v) → (cs : List Call) → elementAt v l cs ≡ afterSets (v .confirm) (trail v l cs .counted)
+  element-after s cs = last invariant (along invariant s (any-call cs)) .1 .element
+
+pub latched : Latched
+unfolding Latched LatchedInARow
+latched v s cs l = rw (element-after v l s cs) (latched-in-a-row (v .confirm) (startable-is v s .confirm .least) (trail v l cs .counted))
+
+pub counted : Counted
+unfolding Counted CountedInARow
+counted v s cs l = rw (element-after v l s cs) (counted-in-a-row (v .confirm) (trail v l cs .counted))
