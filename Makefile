@@ -27,9 +27,13 @@ build/numbers: second/numbers.c
 	@mkdir -p build
 	$(CC) $(CFLAGS) -o $@ $<
 
-build/selftest build/vectors build/bench build/calls: build/%: second/%.c $(SECOND)
+build/selftest build/vectors build/bench: build/%: second/%.c $(SECOND)
 	@mkdir -p build
 	$(CC) $(CFLAGS) -o $@ $< second/relay.c second/draw.c -lm
+
+build/calls: second/calls.c second/parts.c second/parts.h $(SECOND)
+	@mkdir -p build
+	$(CC) $(CFLAGS) -o $@ $< second/parts.c second/relay.c second/draw.c -lm
 
 build/blocks build/fuzz: build/%: second/%.c $(SECOND) include/tdp.h $(HOST)
 	@mkdir -p build
@@ -81,7 +85,8 @@ bench: $(BENCH)
 	test "$$(head -c 512 examples/faults.blocks | $(BENCH))" = "set state D1 D2 D3 trip"
 	test "$$(head -c 1535 examples/faults.blocks | $(BENCH) | tail -n 1)" = "refused 1"
 
-# 300 records of sample and reset calls against the second program: each answer, with counters, latches and refusals.
+# Records of sample and reset calls against the second program: each answer, with counters, latches and refusals; in some, parts of the record are
+# changed between calls, within their rules and past them, so that refusal 12 is met.
 calls: $(CALLS) build/calls
 	build/calls expect > build/calls.out
 	build/calls input | $(CALLS) | cmp - build/calls.out

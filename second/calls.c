@@ -1,27 +1,55 @@
 /* Whole records of calls: `calls input` writes the blocks, `calls expect` the
  * answers. The first byte of a block tells its kind: a setting block starts a
  * relay, each set of a sample block is one sample call, a reset block is one
- * reset call, and a list block one sample call of a list of any length. */
-#include "draw.h"
+ * reset call, and a list block one sample call of a list of any length. Between
+ * calls, a change block puts a part of the relay record to another value, and
+ * a print block has the record printed. */
+#include "parts.h"
 
+#include <stdarg.h>
 #include <stdio.h>
 #include <string.h>
 
-#define RECORDS 300
+#define RECORDS 300         /* of calls alone */
+#define ROUND 10            /* changes in a record of calls and changes */
+#define ROUNDS (3 * CHANGES / ROUND)
 #define MOST_BLOCKS 140
+#define LIST_KIND 0x4C
+#define PRINT_KIND 0x50
 #define RESET_KIND 0x52
 #define SAMPLE_KIND 0x53
-#define SETTING_KIND 0x54
-#define LIST_KIND 0x4C
 
 enum scene_kind { HEALTHY, FAULT, INRUSH, BURSTS, NOISE };
 
-/* One record: its blocks, and whether all its sets are a healthy bank's. */
+/* One record: its blocks, whether all its sets are a healthy bank's, and
+ * whether the relay record came through each refusal 12 as it was. */
 struct record {
     uint8_t block[MOST_BLOCKS][BLOCK_BYTES];
-    size_t blocks, calls;
-    int healthy;
+    size_t blocks, calls, followed;
+    int healthy, kept;
 };
+
+/* Calls by what is asked, and what may be wrong with a record. */
+enum asked { SOUND_SET, UNSOUND_SET, NO_SET, RESET, ASKED };
+enum fault { NONE, BREAKS_4, BREAKS_5, BREAKS_6, BREAKS_7, FILL, NUMBER, COUNTER, FAULTS };
+
+/* What a run has: records, answers, refusals 12 by the call, and changes by
+ * their part and by the fault that they make. */
+static struct {
+    unsigned records, answers, declined[ASKED], changes[4][FAULTS];
+} told;
+
+/* Prints a part of an answer, but where a record is only followed. */
+static int quiet;
+static void say(const char *format, ...)
+{
+    va_list list;
+
+    va_start(list, format);
+    if (!quiet)
+        vprintf(format, list);
+    va_end(list);
+}
 
 /* What goes on at the bank: a fault now on, now off, for some sets. */
 struct scene {
@@ -148,12 +176,11 @@ static void maybe_spoil(struct draw *d, const struct setting *s, int16_t *list)
         spoil_set(d, s, list);
 }
 
-/* A sample block of up to 21 sets of the scene. */
-static void add_samples(struct draw *d, struct scene *scene, struct record *r,
-                        int spoil)
+/* A sample block of so many sets of the scene. */
+static void add_sets(struct draw *d, struct scene *scene, struct record *r,
+                     size_t sets, int spoil)
 {
     int16_t list[BLOCK_NUMBERS];
-    size_t sets = (size_t)draw_from(d, 0, BLOCK_SETS);
 
     for (size_t i = 0; i < sets; i++) {
         scene_set(d, scene, list + 12 * i);
@@ -162,6 +189,13 @@ static void add_samples(struct draw *d, struct scene *scene, struct record *r,
     }
     write_samples(next_block(r), BLOCK_BYTES, 0, list, 12 * sets);
     r->calls += sets;
+}
+
+/* A sample block of up to 21 sets. */
+static void add_samples(struct draw *d, struct scene *scene, struct record *r,
+                        int spoil)
+{
+    add_sets(d, scene, r, (size_t)draw_from(d, 0, BLOCK_SETS), spoil);
 }
 
 /* A sample block that its reader refuses: 2, 8 or 9; makes no call. */
@@ -285,16 +319,7 @@ static void build_refused(struct draw *d, size_t i, struct record *r)
     add_samples(d, &scene, r, 0);
 }
 
-/* Record number i: each sixth on a refused setting. */
-static void build(struct draw *d, size_t i, struct record *r)
-{
-    r->blocks = r->calls = 0;
-    r->healthy = 0;
-    if (i % 6 == 5)
-        build_refused(d, i / 6, r);
-    else
-        build_calls(d, i / 6 * 5 + i % 6, r);
-}
+/* ---- Answers ---- */
 
 /* Whether an answer is one that a healthy bank may get. */
 static int healthy_answer(const struct answer *a, size_t ends)
@@ -308,28 +333,51 @@ static int healthy_answer(const struct answer *a, size_t ends)
     return 1;
 }
 
+/* Counts an answer; of a refusal 12, by the call that it declines. */
+static void count_answer(enum refusal refusal, enum asked asked)
+{
+    if (quiet)
+        return;
+    told.answers++;
+    if (refusal == RECORD_WRONG)
+        told.declined[asked]++;
+}
+
+/* What a sample call asks: whether 14, or 10 or 11, would decline it too. */
+static enum asked asked(const struct relay *relay, const int16_t *list, size_t n)
+{
+    if (n != SET_NUMBERS)
+        return NO_SET;
+    for (size_t i = 0; i < SET_NUMBERS; i++)
+        if (list[i] > SAMPLE_LIMIT || list[i] < -SAMPLE_LIMIT ||
+            (i >= 3u * relay->setting.ends && list[i] != 0))
+            return UNSOUND_SET;
+    return SOUND_SET;
+}
+
 /* One sample call and its line; whether it is right for a healthy bank. */
 static int sample_call(struct relay *relay, const int16_t *list, size_t n)
 {
     struct answer a;
     enum refusal refusal = relay_sample(relay, list, n, &a);
 
+    count_answer(refusal, asked(relay, list, n));
     if (refusal != ACCEPTED) {
-        printf("refused %d\n", refusal);
+        say("refused %d\n", refusal);
         return 1;
     }
     if (a.filling != 0) {
-        printf("F %u\n", a.filling);
+        say("F %u\n", a.filling);
         return 1;
     }
-    printf("M");
+    say("M");
     for (size_t y = 0; y < SYSTEMS; y++) {
         const struct measured *m = &a.system[y];
 
-        printf(" %d %d %d %d %d %d %d", m->differential, m->restraint, m->second,
-               m->fifth, m->start, m->blocked, a.latched[y]);
+        say(" %d %d %d %d %d %d %d", m->differential, m->restraint, m->second,
+            m->fifth, m->start, m->blocked, a.latched[y]);
     }
-    printf("\n");
+    say("\n");
     return healthy_answer(&a, relay->setting.ends);
 }
 
@@ -342,7 +390,7 @@ static int sample_calls(struct relay *relay, const uint8_t *block)
     int right = 1;
 
     if (refusal != ACCEPTED) {
-        printf("block %d\n", refusal);
+        say("block %d\n", refusal);
         return 1;
     }
     for (size_t i = 0; i < count; i += SET_NUMBERS)
@@ -365,10 +413,30 @@ static int reset_call(struct relay *relay)
 {
     enum refusal refusal = relay_reset(relay);
 
+    count_answer(refusal, RESET);
     if (refusal != ACCEPTED)
-        printf("refused %d\n", refusal);
+        say("refused %d\n", refusal);
     else
-        printf("reset\n");
+        say("reset\n");
+    return 1;
+}
+
+/* The whole record in a line: setting fields, fill, counter and latch of each
+ * system, matched numbers. */
+static int print_record(const struct relay *relay)
+{
+    say("record");
+    for (size_t i = 0; i < FIELDS; i++) {
+        struct part part = {SETTING_PART, (uint8_t)FIELD[i].at};
+
+        say(" %u", part_value(relay, part));
+    }
+    say(" %u", relay->fill);
+    for (size_t y = 0; y < SYSTEMS; y++)
+        say(" %u %u", relay->counters[y], relay->latches[y]);
+    for (size_t i = 0; i < WINDOW_NUMBERS; i++)
+        say(" %d", relay->values[i]);
+    say("\n");
     return 1;
 }
 
@@ -381,27 +449,162 @@ static int setting_call(struct relay *relay, const uint8_t *block, size_t length
 
     if (refusal == ACCEPTED)
         refusal = relay_start(&s, relay, &offset);
-    printf("setting %d\n", refusal);
+    say("setting %d\n", refusal);
     return refusal == ACCEPTED;
 }
 
-/* The lines of one record; 0 when a healthy bank starts or differs. */
+/* A block after the setting, by its kind. */
+static int call_block(struct relay *relay, const uint8_t *block)
+{
+    switch (block[0]) {
+    case SAMPLE_KIND: return sample_calls(relay, block);
+    case LIST_KIND: return list_call(relay, block);
+    case CHANGE_KIND: change_part(relay, take_change(block)); return 1;
+    case PRINT_KIND: return print_record(relay);
+    default: return reset_call(relay);
+    }
+}
+
+/* ---- Changes between calls ---- */
+
+/* The relay after the blocks that came since it was followed last. */
+static void follow(struct record *r, struct relay *relay)
+{
+    quiet = 1;
+    for (; r->followed < r->blocks; r->followed++)
+        call_block(relay, r->block[r->followed]);
+    quiet = 0;
+}
+
+/* Changes a part. */
+static void add_change(struct record *r, struct relay *relay, struct change change)
+{
+    lay_change(change, next_block(r));
+    follow(r, relay);
+}
+
+/* What makes a record inadmissible, by document 01's row for refusal 12. */
+static enum fault record_fault(const struct relay *relay)
+{
+    size_t offset;
+    enum refusal refusal = setting_refusal(&relay->setting, &offset);
+
+    if (refusal != ACCEPTED)
+        return (enum fault)(BREAKS_4 + refusal - ENDS_WRONG);
+    if (relay->fill > WINDOW_SETS)
+        return FILL;
+    for (size_t i = 0; i < WINDOW_NUMBERS; i++)
+        if (relay->values[i] < -MATCHED_LIMIT || relay->values[i] > MATCHED_LIMIT)
+            return NUMBER;
+    for (size_t y = 0; y < SYSTEMS; y++)
+        if (relay->counters[y] > relay->setting.confirm)
+            return COUNTER;
+    return NONE;
+}
+
+/* Some calls and the record printed: all kinds of calls where they are to be
+ * refused. */
+static void add_some_calls(struct draw *d, struct scene *scene, struct record *r,
+                           int refused)
+{
+    add_sets(d, scene, r, (size_t)draw_from(d, 1, 2), draw_chance(d, 40));
+    if (refused || draw_chance(d, 20))
+        add_list(d, scene, r);
+    if (refused || draw_chance(d, 20))
+        add_reset(r);
+    next_block(r)[0] = PRINT_KIND;
+}
+
+/* A change, calls on the changed record, and mostly the value of before again:
+ * where the calls are refused, the record is then the one of before. */
+static void add_changed_calls(struct draw *d, struct scene *scene, struct record *r,
+                              struct relay *relay, struct change change)
+{
+    struct change back = {change.part, part_value(relay, change.part)};
+    struct relay before = *relay;
+    enum fault fault;
+
+    add_change(r, relay, change);
+    fault = record_fault(relay);
+    told.changes[change.part.kind][fault]++;
+    add_some_calls(d, scene, r, fault != NONE);
+    follow(r, relay);
+    if (fault != NONE || draw_chance(d, 50))
+        add_change(r, relay, back);
+    if (fault != NONE && !record_same(relay, &before))
+        r->kept = 0;
+    add_sets(d, scene, r, (size_t)draw_from(d, 1, 3), 0);
+    follow(r, relay);
+}
+
+/* Record number i of changes: the next ten of all, kinds mixed. */
+static void build_changes(struct draw *d, size_t i, struct record *r)
+{
+    struct scene scene;
+    struct relay relay;
+    size_t offset;
+
+    draw_scene(d, i, &scene);
+    lay_setting(&scene.setting, next_block(r));
+    relay_start(&scene.setting, &relay, &offset);
+    r->followed = 1;
+    add_samples(d, &scene, r, 0);
+    follow(r, &relay);
+    for (size_t k = ROUND * i; k < ROUND * (i + 1); k++)
+        add_changed_calls(d, &scene, r, &relay,
+                          edge_change(d, &relay, 97 * k % CHANGES));
+}
+
+/* A record on document 01's plain setting: factors just at their limits and
+ * just past them. */
+static void build_limits(struct draw *d, struct record *r)
+{
+    static const uint32_t current[4] = {16000, 16001, 500, 499};
+    struct scene scene = {.setting = plain_setting, .kind = NOISE};
+    struct relay relay;
+    size_t offset;
+
+    lay_setting(&scene.setting, next_block(r));
+    relay_start(&scene.setting, &relay, &offset);
+    r->followed = 1;
+    for (size_t k = 0; k < 8; k++) {
+        struct change change = {{SETTING_PART, k < 4 ? 16 : 28}, current[k % 4]};
+        struct change back = {change.part, 1000};
+
+        add_changed_calls(d, &scene, r, &relay, change);
+        add_change(r, &relay, back);
+    }
+}
+
+/* ---- The run ---- */
+
+/* Record number i: first those of calls alone, each sixth of them on a refused
+ * setting; then those with changes. */
+static void build(struct draw *d, size_t i, struct record *r)
+{
+    memset(r, 0, sizeof *r);
+    r->kept = 1;
+    if (i == RECORDS + ROUNDS)
+        build_limits(d, r);
+    else if (i >= RECORDS)
+        build_changes(d, i - RECORDS, r);
+    else if (i % 6 == 5)
+        build_refused(d, i / 6, r);
+    else
+        build_calls(d, i / 6 * 5 + i % 6, r);
+}
+
+/* The lines of one record; 0 when a healthy bank starts or differs, or a
+ * refused call changed the relay record. */
 static int put_expected(const struct record *r)
 {
     struct relay relay;
     int started = setting_call(&relay, r->block[0], BLOCK_BYTES), right = 1;
 
-    for (size_t i = 1; started && i < r->blocks; i++) {
-        const uint8_t *block = r->block[i];
-
-        if (block[0] == SAMPLE_KIND)
-            right &= sample_calls(&relay, block);
-        else if (block[0] == LIST_KIND)
-            right &= list_call(&relay, block);
-        else
-            right &= reset_call(&relay);
-    }
-    return right || !r->healthy;
+    for (size_t i = 1; started && i < r->blocks; i++)
+        right &= call_block(&relay, r->block[i]);
+    told.records++;
+    return r->kept && (right || !r->healthy);
 }
 
 /* The blocks of one record. */
@@ -424,6 +627,40 @@ static int put_short(struct draw *d, int input)
     return !setting_call(&relay, block, BLOCK_BYTES - 1);
 }
 
+/* Tells numbers and their sum; whether none of them is zero. */
+static int tell(const char *what, const unsigned *number, size_t n)
+{
+    unsigned sum = 0;
+    int all = 1;
+
+    for (size_t i = 0; i < n; i++) {
+        sum += number[i];
+        all &= number[i] != 0;
+    }
+    fprintf(stderr, "calls: %s %u:", what, sum);
+    for (size_t i = 0; i < n; i++)
+        fprintf(stderr, " %u", number[i]);
+    fprintf(stderr, "%s\n", all ? "" : ", one kind is missing");
+    return all;
+}
+
+/* Tells what the run has; whether every kind of refusal 12 and of change is
+ * among it. A change of the setting can break 4 to 7, or leave a counter above
+ * M; one of another part breaks that part's rule. */
+static int all_told(void)
+{
+    const unsigned *s = told.changes[SETTING_PART], *f = told.changes[FILL_PART];
+    const unsigned *v = told.changes[NUMBER_PART], *c = told.changes[COUNTER_PART];
+    const unsigned within[4] = {s[NONE], f[NONE], v[NONE], c[NONE]};
+    const unsigned past[8] = {s[BREAKS_4], s[BREAKS_5], s[BREAKS_6], s[BREAKS_7],
+                              s[COUNTER],  f[FILL],     v[NUMBER],   c[COUNTER]};
+
+    fprintf(stderr, "calls: %u records, %u answers\n", told.records, told.answers);
+    return tell("refused 12", told.declined, ASKED) &
+           tell("changes within the rules", within, 4) &
+           tell("changes past them", past, 8);
+}
+
 int main(int argc, char **argv)
 {
     static struct record r;
@@ -434,13 +671,13 @@ int main(int argc, char **argv)
         fputs("usage: calls input|expect\n", stderr);
         return 2;
     }
-    for (size_t i = 0; i < RECORDS && right; i++) {
+    for (size_t i = 0; i <= RECORDS + ROUNDS && right; i++) {
         build(&d, i, &r);
         right = input ? put_input(&r) : put_expected(&r);
         if (!right)
             fprintf(stderr, "calls: record %zu is not as it must be\n", i);
     }
-    if (!right || !put_short(&d, input))
+    if (!right || !put_short(&d, input) || (!input && !all_told()))
         return 1;
     return fflush(stdout) != 0;
 }

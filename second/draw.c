@@ -63,6 +63,13 @@ void put_field(uint8_t *block, const struct field *field, uint32_t value)
 
 /* ---- Settings ---- */
 
+const struct setting plain_setting = {
+    .ends = 2, .confirm = 1, .power = 1351,
+    .end = {{.voltage = 780, .current = 1000}, {.voltage = 780, .current = 1000}},
+    .pick_up = 200, .high_set = 8000, .slope1 = 30, .slope2 = 70,
+    .third_section = 4000, .second = 20, .fifth = 35,
+};
+
 /* How far two numbers lie apart. */
 static int64_t distance(int64_t a, int64_t b)
 {

@@ -23,7 +23,9 @@ struct field {
 extern const struct field FIELD[FIELDS];
 void put_field(uint8_t *block, const struct field *field, uint32_t value);
 
-/* Settings. */
+/* Settings. The plain one is document 01's: two ends of factor 1 and group 0,
+ * no filter, no blocking. */
+extern const struct setting plain_setting;
 void aim_factor(struct draw *d, uint32_t power, int64_t factor, struct end *end);
 void draw_setting(struct draw *d, uint8_t ends, struct setting *s);
 void draw_wide_setting(struct draw *d, struct setting *s);

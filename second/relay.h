@@ -106,6 +106,7 @@ enum refusal read_samples(const uint8_t *bytes, size_t length,
 enum refusal write_samples(uint8_t *record, size_t record_length, size_t block,
                            const int16_t *list, size_t n);
 void lay_setting(const struct setting *setting, uint8_t block[BLOCK_BYTES]);
+void take_setting(const uint8_t block[BLOCK_BYTES], struct setting *setting);
 void seal_block(uint8_t block[BLOCK_BYTES]);
 
 /* Measuring. The power of the setting must not be zero. */

@@ -18,22 +18,6 @@ static void meet(const char *what, int64_t found, int64_t wanted)
            (long long)wanted);
 }
 
-/* Two ends, factor 1 at both, group 0, no filter, no blocking. */
-static struct setting plain_setting(void)
-{
-    struct setting s = {.ends = 2, .confirm = 1, .power = 1351};
-
-    s.end[0] = s.end[1] = (struct end){780, 1000, 0, 0};
-    s.pick_up = 200;
-    s.high_set = 8000;
-    s.slope1 = 30;
-    s.slope2 = 70;
-    s.third_section = 4000;
-    s.second = 20;
-    s.fifth = 35;
-    return s;
-}
-
 /* Factors and the limits on them. */
 static void check_factors(void)
 {
@@ -49,7 +33,7 @@ static void check_factors(void)
         int refusal;
     } limit[] = {{16000, 1000, 0}, {16001, 1000, 6}, {1000, 16001, 6},
                  {500, 500, 0},    {499, 499, 7},    {16000, 499, 7}};
-    struct setting s = plain_setting();
+    struct setting s = plain_setting;
     size_t offset;
 
     for (size_t i = 0; i < sizeof table / sizeof table[0]; i++) {
@@ -57,7 +41,7 @@ static void check_factors(void)
         s.end[0] = (struct end){table[i].v, table[i].i, 0, 0};
         meet("factor", (int64_t)matching_factor(&s, 0), table[i].factor);
     }
-    s = plain_setting();
+    s = plain_setting;
     for (size_t i = 0; i < sizeof limit / sizeof limit[0]; i++) {
         s.end[0].current = limit[i].first;
         s.end[1].current = limit[i].other;
@@ -77,7 +61,7 @@ static void check_matching(void)
                  {1000, 5, 0, {1000, 0, -1000}, {-1155, 577, 577}},
                  {1000, 5, 1, {1000, 0, -1000}, {-1155, 577, 577}},
                  {1000, 0, 1, {300, 0, 0}, {200, -100, -100}}};
-    struct setting s = plain_setting();
+    struct setting s = plain_setting;
 
     for (size_t i = 0; i < sizeof table / sizeof table[0]; i++) {
         int16_t list[SET_NUMBERS] = {0};
@@ -205,7 +189,7 @@ static void check_characteristic(void)
     static const struct {
         int64_t r, d;
     } first[] = {{0, 201}, {200, 201}, {1200, 351}, {8000, 1371}, {10000, 2071}};
-    struct setting s = plain_setting();
+    struct setting s = plain_setting;
 
     for (size_t i = 0; i < sizeof first / sizeof first[0]; i++) {
         meet("start", starts(&s, first[i].d, first[i].r), 1);
@@ -217,7 +201,7 @@ static void check_characteristic(void)
 static void check_refusals(void)
 {
     static const int16_t sample[4] = {32000, 32001, -32000, -32001};
-    struct setting s = plain_setting(), back;
+    struct setting s = plain_setting, back;
     uint8_t block[BLOCK_BYTES] = {0};
     struct relay relay, before;
     struct answer answer;
@@ -243,7 +227,7 @@ static void check_refusals(void)
 /* Refusal 12 by each cause, in order before 14, and in reset. */
 static void check_records(void)
 {
-    struct setting s = plain_setting();
+    struct setting s = plain_setting;
     struct relay fresh, relay[6];
     struct answer answer;
     size_t offset;
@@ -286,7 +270,7 @@ static void check_setting_block(void)
                  {39, 1, 5, 36},   {41, 1, 5, 40},   {57, 1, 5, 57},
                  {61, 250, 5, 60}, {72, 81, 5, 72},  {74, 1, 5, 74},
                  {509, 1, 5, 509}, {3, 0x32, 3, 0}, {32, 11, 0, 0}};
-    struct setting s = plain_setting(), back;
+    struct setting s = plain_setting, back;
     uint8_t block[BLOCK_BYTES + 1];
     size_t offset;
 
@@ -417,7 +401,7 @@ static size_t bench_lines(struct relay *relay, const int16_t *list, char *text,
 /* The bench example, by calls and as one measured block. */
 static void check_bench(void)
 {
-    struct setting s = plain_setting();
+    struct setting s = plain_setting;
     int16_t list[144] = {0};
     uint8_t setting[BLOCK_BYTES], samples[BLOCK_BYTES];
     struct relay relay;
@@ -440,7 +424,7 @@ static void check_bench(void)
 /* Blocking holds a start back but not the high-set; a reset unlatches. */
 static void check_trip(void)
 {
-    struct setting s = plain_setting();
+    struct setting s = plain_setting;
     struct relay relay;
     struct answer a;
     size_t offset;

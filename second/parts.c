@@ -1,0 +1,201 @@
+#include "parts.h"
+
+#include <string.h>
+
+/* ---- One part ---- */
+
+/* The field at an offset of the setting block. */
+static const struct field *field_at(size_t at)
+{
+    size_t i = 0;
+
+    while (FIELD[i].at != at)
+        i++;
+    return &FIELD[i];
+}
+
+/* The value of a setting field, out of the block that the setting makes. */
+static uint32_t setting_value(const struct setting *s, size_t at)
+{
+    uint8_t block[BLOCK_BYTES];
+    uint32_t value = 0;
+
+    lay_setting(s, block);
+    for (size_t i = field_at(at)->width; i > 0; i--)
+        value = value << 8 | block[at + i - 1];
+    return value;
+}
+
+/* A setting field put to a value as far as its bytes hold it. */
+static void change_setting(struct setting *s, size_t at, uint32_t value)
+{
+    uint8_t block[BLOCK_BYTES];
+
+    lay_setting(s, block);
+    put_field(block, field_at(at), value);
+    take_setting(block, s);
+}
+
+/* What a part holds. */
+uint32_t part_value(const struct relay *relay, struct part part)
+{
+    switch (part.kind) {
+    case SETTING_PART: return setting_value(&relay->setting, part.which);
+    case FILL_PART: return relay->fill;
+    case NUMBER_PART: return (uint32_t)relay->values[part.which];
+    default: return relay->counters[part.which];
+    }
+}
+
+/* Puts a part to another value; fill and counters are single bytes. */
+void change_part(struct relay *relay, struct change change)
+{
+    size_t which = change.part.which;
+
+    switch (change.part.kind) {
+    case SETTING_PART: change_setting(&relay->setting, which, change.value); break;
+    case FILL_PART: relay->fill = (uint8_t)change.value; break;
+    case NUMBER_PART: relay->values[which] = (int32_t)change.value; break;
+    default: relay->counters[which] = (uint8_t)change.value; break;
+    }
+}
+
+/* ---- The whole record ---- */
+
+/* Whether two records hold the same in every part. */
+int record_same(const struct relay *a, const struct relay *b)
+{
+    uint8_t x[BLOCK_BYTES], y[BLOCK_BYTES];
+
+    lay_setting(&a->setting, x);
+    lay_setting(&b->setting, y);
+    return memcmp(x, y, sizeof x) == 0 && a->fill == b->fill &&
+           memcmp(a->values, b->values, sizeof a->values) == 0 &&
+           memcmp(a->counters, b->counters, sizeof a->counters) == 0 &&
+           memcmp(a->latches, b->latches, sizeof a->latches) == 0;
+}
+
+/* ---- Blocks ---- */
+
+/* Byte 1 the kind of part, 2 which of them, 4 to 7 the value. */
+void lay_change(struct change change, uint8_t block[BLOCK_BYTES])
+{
+    memset(block, 0, BLOCK_BYTES);
+    block[0] = CHANGE_KIND;
+    block[1] = (uint8_t)change.part.kind;
+    block[2] = change.part.which;
+    for (size_t i = 0; i < 4; i++)
+        block[4 + i] = (uint8_t)(change.value >> (8 * i));
+}
+
+/* The change that a block tells. */
+struct change take_change(const uint8_t block[BLOCK_BYTES])
+{
+    struct change change = {{(enum part_kind)block[1], block[2]}, 0};
+
+    for (size_t i = 4; i > 0; i--)
+        change.value = change.value << 8 | block[3 + i];
+    return change;
+}
+
+/* ---- Edges ---- */
+
+/* A setting field at both edges of its range and one past each. */
+static struct change field_edge(size_t i)
+{
+    const struct field *f = &FIELD[i / 4];
+    const uint32_t edge[4] = {f->low - 1, f->low, f->high, f->high + 1};
+
+    return (struct change){{SETTING_PART, (uint8_t)f->at}, edge[i % 4]};
+}
+
+/* The lowest power at which no factor is too high; or at which, of factors not
+ * too high, the second largest is too low. */
+static uint32_t power_limit(struct setting s, int low)
+{
+    size_t offset;
+
+    for (s.power = 1; s.power < 50000; s.power++) {
+        enum refusal refusal = setting_refusal(&s, &offset);
+
+        if (refusal == FACTOR_TOO_LOW || (!low && refusal == ACCEPTED))
+            break;
+    }
+    return s.power;
+}
+
+/* The powers to either side of both limits of the factors. */
+static struct change factor_edge(const struct relay *relay, size_t i)
+{
+    uint32_t power = power_limit(relay->setting, i >= 2);
+
+    return (struct change){{SETTING_PART, 8}, power - (i % 2 == 0 && power > 1)};
+}
+
+/* The fill with the window empty, not full, full, and past it. */
+static struct change fill_edge(size_t i)
+{
+    static const uint8_t fill[6] = {0, 11, 12, 13, 14, 255};
+
+    return (struct change){{FILL_PART, 0}, fill[i]};
+}
+
+/* Each place in turn with a number beyond the limit. */
+static struct change number_beyond(size_t i)
+{
+    static const int32_t beyond[4] = {MATCHED_LIMIT + 1, -MATCHED_LIMIT - 1, INT32_MAX,
+                                      INT32_MIN};
+
+    return (struct change){{NUMBER_PART, (uint8_t)i}, (uint32_t)beyond[i / 3 % 4]};
+}
+
+/* Any place with the largest number or the least. */
+static struct change number_edge(struct draw *d, size_t i)
+{
+    int32_t edge = i % 2 == 0 ? MATCHED_LIMIT : -MATCHED_LIMIT;
+
+    return (struct change){{NUMBER_PART, (uint8_t)draw_from(d, 0, 143)}, (uint32_t)edge};
+}
+
+/* A counter of 0, of the confirm count, one above it, and the largest. */
+static struct change counter_edge(const struct relay *relay, size_t i)
+{
+    uint32_t confirm = relay->setting.confirm;
+    const uint32_t count[4] = {0, confirm, confirm + 1, 255};
+
+    return (struct change){{COUNTER_PART, (uint8_t)(i / 4)}, count[i % 4]};
+}
+
+/* The confirm count at the largest counter, or one below it. */
+static struct change confirm_edge(const struct relay *relay, size_t i)
+{
+    uint32_t most = 0;
+
+    for (size_t y = 0; y < SYSTEMS; y++)
+        if (relay->counters[y] > most)
+            most = relay->counters[y];
+    return (struct change){{SETTING_PART, 6}, most - (i % 2 != 0 && most > 1)};
+}
+
+/* Change number i, in order of the kinds. */
+struct change edge_change(struct draw *d, const struct relay *relay, size_t i)
+{
+    if (i < 4 * FIELDS)
+        return field_edge(i);
+    i -= 4 * FIELDS;
+    if (i < 4)
+        return factor_edge(relay, i);
+    i -= 4;
+    if (i < 6)
+        return fill_edge(i);
+    i -= 6;
+    if (i < WINDOW_NUMBERS)
+        return number_beyond(i);
+    i -= WINDOW_NUMBERS;
+    if (i < 12)
+        return counter_edge(relay, i);
+    i -= 12;
+    if (i < 16)
+        return confirm_edge(relay, i);
+    return number_edge(d, i);
+}
