@@ -76,14 +76,21 @@ host: build/host build/blocks build/fuzz
 	build/blocks
 	build/fuzz 10000
 
-# The bench program on the example, nothing, a block of zeros, half a setting block, a setting alone, and a last block that is one byte short.
-bench: $(BENCH)
+# The bench program on the example, also where it comes in pieces of seven bytes, nothing, a block of zeros, half a setting block, a setting alone, and
+# a last block that is one byte short; then on each case of the second program: every refusal that it can meet, blocks of no sets and full ones, and
+# 200 streams drawn by chance.
+bench: $(BENCH) build/bench
 	$(BENCH) < examples/faults.blocks | cmp - examples/faults.out
+	dd bs=7 status=none if=examples/faults.blocks | $(BENCH) | cmp - examples/faults.out
 	test "$$($(BENCH) < /dev/null)" = "refused 1"
 	test "$$(head -c 512 /dev/zero | $(BENCH))" = "refused 3"
 	test "$$(head -c 256 examples/faults.blocks | $(BENCH))" = "refused 1"
 	test "$$(head -c 512 examples/faults.blocks | $(BENCH))" = "set state D1 D2 D3 trip"
 	test "$$(head -c 1535 examples/faults.blocks | $(BENCH) | tail -n 1)" = "refused 1"
+	build/bench drawn
+	@echo "build/bench CASE input | $(BENCH) | cmp - build/bench.out, for each case"
+	@for c in $$(build/bench cases); do build/bench $$c expect > build/bench.out && build/bench $$c input | $(BENCH) | cmp - build/bench.out || \
+		{ echo "bench: case $$c"; exit 1; }; done
 
 # Records of sample and reset calls against the second program: each answer, with counters, latches and refusals; in some, parts of the record are
 # changed between calls, within their rules and past them, so that refusal 12 is met.

@@ -31,7 +31,9 @@ struct record {
 
 /* Calls by what is asked, and what may be wrong with a record. */
 enum asked { SOUND_SET, UNSOUND_SET, NO_SET, RESET, ASKED };
-enum fault { NONE, BREAKS_4, BREAKS_5, BREAKS_6, BREAKS_7, FILL, NUMBER, COUNTER, FAULTS };
+enum fault {
+    NONE, BREAKS_4, BREAKS_5, BREAKS_6, BREAKS_7, FILL, NUMBER, COUNTER, FAULTS
+};
 
 /* What a run has: records, answers, refusals 12 by the call, and changes by
  * their part and by the fault that they make. */
