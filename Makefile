@@ -35,7 +35,7 @@ build/calls: second/calls.c second/parts.c second/parts.h $(SECOND)
 	@mkdir -p build
 	$(CC) $(CFLAGS) -o $@ $< second/parts.c second/relay.c second/draw.c -lm
 
-build/blocks build/fuzz: build/%: second/%.c $(SECOND) include/tdp.h $(HOST)
+build/blocks build/fuzz build/edges: build/%: second/%.c $(SECOND) include/tdp.h $(HOST)
 	@mkdir -p build
 	$(CC) $(CFLAGS) -Iinclude -o $@ $< second/relay.c second/draw.c $(HOST) -lm
 
@@ -70,11 +70,12 @@ stored: build/numbers build/vectors build/bench
 # What is run on the proved code.
 proved: host bench calls
 
-# The C calls: the example, 100,000 setting blocks and 10,000 measuring calls against the second program.
-host: build/host build/blocks build/fuzz
+# The C calls: the example; 100,000 setting blocks and 10,000 measuring calls against the second program; and blocks at the edge of what may be read.
+host: build/host build/blocks build/fuzz build/edges
 	build/host | cmp - examples/host.out
 	build/blocks
 	build/fuzz 10000
+	build/edges
 
 # The bench program on the example, also where it comes in pieces of seven bytes, nothing, a block of zeros, half a setting block, a setting alone, and
 # a last block that is one byte short; then on each case of the second program: every refusal that it can meet, blocks of no sets and full ones, and
