@@ -1,9 +1,10 @@
 -- The whole square root (document 01, "Amplitudes": the largest whole number whose square is at most n).
+use mathlib.Core.Path.{_≡_}
 use mathlib.Core.Bool.{cond}
 use Prim.Native.Nat.{ℕ, zero, suc, _+_, _*_, _/_, _≤_, _<_}
 use lib.Dec.{leb}
 
--- r is the root of n
+-- r is the root of n: its square is at most n, and that of the next number is not
 pub record Root (n r : ℕ) : Type 0 where
   pub low : r * r ≤ n
   pub high : n < (r + 1) * (r + 1)
@@ -18,6 +19,10 @@ rootBy zero n = 0
 rootBy (suc most) zero = 0
 rootBy (suc most) (suc n) = raised (suc n) (2 * rootBy most (suc n / 4))
 
--- `Root n (root n)` for every n: `root-is` of proofs/RootLaws.antt
 abbrev pub root : ℕ → ℕ
 root n = rootBy n n
+
+-- what finding the root gives: the definition's number, and document 01's sentence of it
+pub record FindsRoot (n r : ℕ) : Type 0 where
+  pub same : r ≡ root n
+  pub largest : Root n r

@@ -3,7 +3,7 @@
 
 ghost use mathlib.Core.Path.{_≡_};
 ghost use Rattle.integer.specs.Nearest.{Divides, nearest as nearestOf};
-ghost use Rattle.integer.specs.Root.{root as rootOf};
+ghost use Rattle.integer.specs.Root.{FindsRoot};
 
 // a / b to the nearest whole number; a half goes up. The machine rounds a quotient toward zero:
 // where the remainder is negative, that is one too many.
@@ -21,7 +21,7 @@ pub fn nearest(a: i64, b: u64) -> i64
 // The largest r whose square is at most x, a binary digit a turn from the top: half as many turns
 // as x has digits, none at 0.
 pub fn root(x: u64) -> u64
-    ensures { λ r. ⌜ r ≡ rootOf x ⌝ }
+    ensures { λ r. ⌜ FindsRoot x r ⌝ }
 {
     let mut left = (65 - u64::leading_zeros(x)) / 2;
     let mut r: u64 = 0;

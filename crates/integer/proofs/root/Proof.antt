@@ -7,6 +7,7 @@ use native.Mathlib.Nat.{mul-le-mul, lt-of-lt-of-le}
 use native.Mathlib.Omega.{arith}
 use lib.Pow.{pow-mono, pow-add, shl-exact}
 use lib.Count.{leadingZeros, leading-le, leading-length}
+use Rattle.integer.specs.Root.{Root}
 use Rattle.integer.proofs.RootLaws.{root-only}
 use Rattle.integer.proofs.root.Statement.{statement}
 use Rattle.integer.proofs.root.Tie as tie
@@ -104,7 +105,8 @@ returns : tie.Need-returns Inv-loop μ-loop
 returns c =
     let none : c .before .loop .left ≡ 0 = omega arith in
     let i = c .before .loop .inv in
-    root-only (record { low = i .low; high = rw none at (i .high) })
+    let found : Root (c .before .before .args .x) (c .before .loop .r) = record { low = i .low; high = rw none at (i .high) } in
+    record { same = root-only found; largest = found }
 
 pub root-spec : {M : Type 1} → statement M
 root-spec =
