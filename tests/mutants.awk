@@ -30,7 +30,7 @@ function numbers(    at, size, from, before, after) {
 
 { text[FILENAME, FNR] = $0; last[FILENAME] = FNR }
 
-/^ *(\/\/|ghost|use|pub|mod|fn|impl|requires|ensures|#|[{}])/ { next }
+/^ *(\/\/|ghost|use|pub|mod|fn|impl|requires|ensures|#|[{}])|io::/ { next }
 
 {
     replace(" < ", " <= ")

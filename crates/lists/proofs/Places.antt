@@ -1,6 +1,6 @@
 -- A list by its places: its start as `upTo`, an element of `upTo`, the rest from a place on, and a part of a list that was lent and is back.
-use mathlib.Core.Path.{_≡_, refl, ap, _∙_}
-use mathlib.Core.List.{List, [], _∷_, _++_, append-nil}
+use mathlib.Core.Path.{_≡_, refl, sym, ap, _∙_}
+use mathlib.Core.List.{List, [], _∷_, _++_, append-assoc, append-nil, flatten}
 use Prim.Native.Nat.{ℕ, zero, suc, _+_, _-_, _<_, _≤_}
 use native.Mathlib.Nat.{zero-add, suc-add}
 use native.Mathlib.Numerals.{add-one}
@@ -45,6 +45,12 @@ module _ {ℓ} {A : Type ℓ} where
   -- the rest from i on is its first element and the rest from i + 1 on
   pub drop-next : (s : List A) (i : ℕ) (d : A) → i < length s → drop i s ≡ getD s i d ∷ drop (i + 1) s
   drop-next s i d h = drop-cons s i d h ∙ rw add-one
+
+-- lists one after the other, and one more
+pub flat-snoc : {A : Type 0} (ls : List (List A)) (l : List A) → flatten (ls ++ (l ∷ [])) ≡ flatten ls ++ l
+unfolding flatten
+flat-snoc [] l = append-nil l
+flat-snoc {A} (k ∷ ls) l = ap (λ (t : List A). k ++ t) (flat-snoc ls l) ∙ sym (append-assoc k (flatten ls) l)
 
 -- what holds of each element
 pub upTo-each : {A : Type 0} {P : A → Type 0} (n : ℕ) (f : ℕ → A) → ((k : ℕ) → k < n → P (f k)) → Each P (upTo n f)

@@ -11,7 +11,7 @@ use lib.IntN.{ℤ, pos}
 use lib.ListN.{length, getD, take, drop, replicate, length-append, length-drop, List·getD-append, replicate-append-replicate}
 use lib.Seq.{take-at, drop-at, drop-append-add, drop-append-le, getD-append-add}
 use Rattle.lists.specs.Tests.{Each, none, _&_}
-use Rattle.lists.proofs.Places.{drop-next}
+use Rattle.lists.proofs.Places.{drop-next, flat-snoc}
 use Rattle.lists.proofs.TestLaws.{each-drop}
 use Rattle.state.specs.State.{windowWith}
 use Rattle.stability.specs.Lists.{last12, windowOf}
@@ -33,12 +33,6 @@ flat-length : {ws : List (List ℤ)} → Each Twelve ws → length (flatten ws) 
 unfolding flatten
 flat-length none = refl
 flat-length (_&_ {a = w} {l = ws} e h) = length-append w (flatten ws) ∙ omega (arith, e, flat-length h)
-
--- one set more
-flat-snoc : (ws : List (List ℤ)) (ns : List ℤ) → flatten (ws ++ (ns ∷ [])) ≡ flatten ws ++ ns
-unfolding flatten
-flat-snoc [] ns = append-nil ns
-flat-snoc (w ∷ ws) ns = ap (λ (l : List ℤ). w ++ l) (flat-snoc ws ns) ∙ sym (append-assoc w (flatten ws) ns)
 
 -- number j of set k
 pub flat-at : {ws : List (List ℤ)} → Each Twelve ws → (rest : List ℤ) (k j : ℕ) → k < length ws → j < 12 →
