@@ -1,6 +1,6 @@
 -- The window of a list of sets, twelve numbers a set laid out flat. Filing a set: the window of the last twelve of some sets becomes that of the last
 -- twelve of these and the new one.
-use mathlib.Core.Path.{_≡_, refl, sym, ap, _∙_}
+use mathlib.Core.Path.{_≡_, refl, ap, _∙_}
 use mathlib.Core.Bool.{Bool, true, false}
 use mathlib.Core.List.{List, [], _∷_, _++_, append-assoc, append-nil, flatten}
 use Prim.Native.Nat.{ℕ, zero, suc, _+_, _*_, _-_, _≤_, _<_}

@@ -1,8 +1,8 @@
 -- A number's decimal digits: `places` has the fewest that hold it, only one number of digits is the fewest, and a number below 10 ^ m has at most m.
-use mathlib.Core.Path.{_≡_, refl, sym, ap, _∙_}
+use mathlib.Core.Path.{_≡_, refl, ap, _∙_}
 use mathlib.Core.Bool.{Bool, true, false, cond}
-use mathlib.Core.List.{List, [], _∷_}
-use Prim.Native.Nat.{ℕ, zero, suc, _+_, _-_, _*_, _/_, _%_, _^_, _≤_, _<_}
+use mathlib.Core.List.{List}
+use Prim.Native.Nat.{ℕ, zero, suc, _+_, _-_, _*_, _/_, _^_, _≤_, _<_}
 use native.Mathlib.Nat.{pow-suc, pow-le-pow-right}
 use native.Mathlib.Numerals.{add-one}
 use native.Mathlib.Omega.{arith}
@@ -10,7 +10,7 @@ use borrow.Author.Tests.{ltb-true, ltb-false}
 use lib.Dec.{ltb}
 use lib.ListN.{length, length-append}
 use Rattle.lists.specs.Lists.{upTo}
-use Rattle.io.specs.Digits.{digits, glyph, Fewest}
+use Rattle.io.specs.Digits.{digits, Fewest}
 use Rattle.text.specs.Text.{ascii, placesBy, places, FewestPlaces, decimal, field}
 
 -- one digit more

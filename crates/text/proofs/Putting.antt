@@ -1,10 +1,10 @@
 -- Texts put one after the other are put as one; and one that is put after the text of a buffer whose other bytes are all the same.
-use mathlib.Core.Path.{_≡_, refl, sym, ap, _∙_}
-use mathlib.Core.List.{List, [], _∷_, _++_, append-assoc, append-nil}
-use Prim.Native.Nat.{ℕ, zero, suc, _+_, _-_, _≤_, _<_}
+use mathlib.Core.Path.{_≡_, sym, ap, _∙_}
+use mathlib.Core.List.{List, _++_, append-assoc}
+use Prim.Native.Nat.{ℕ, _+_, _-_, _≤_}
 use native.Mathlib.Omega.{arith}
-use lib.ListN.{length, take, drop, length-append, length-take, length-drop}
-use lib.Seq.{paste, take-paste, drop-paste, length-paste, take-length, drop-drop}
+use lib.ListN.{length, take, drop, length-append}
+use lib.Seq.{take-paste, drop-paste, length-paste, take-length, drop-drop}
 use Rattle.text.specs.Text.{Room, Puts}
 
 -- the same length
