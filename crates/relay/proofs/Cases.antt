@@ -6,10 +6,10 @@ use mathlib.Core.List.{List}
 use Prim.Native.Nat.{ℕ}
 use lib.Dec.{T, eqb}
 use lib.IntN.{ℤ}
-use Rattle.lists.specs.Tests.{Each, _&_}
+use Rattle.lists.specs.Tests.{Each}
 use Rattle.refusal.specs.declared.Verdict.{Verdict}
-use Rattle.refusal.specs.Refusals.{Outcome, gives, declines, done, outcomeOf}
-use Rattle.refusal.proofs.Stops.{Passed, Stops, later, Stopped, stops-declines, passed-gives, none-passed, stopped}
+use Rattle.refusal.specs.Refusals.{Outcome, gives, declines, firstOf, done, outcomeOf}
+use Rattle.refusal.proofs.Stops.{Passed, Stops, Stopped, stops-declines, passed-gives, none-gives, stopped}
 use Rattle.setting.specs.declared.Setting.{Setting}
 use Rattle.state.specs.declared.Window.{Window}
 use Rattle.relay.specs.declared.Relay.{Relay}
@@ -55,18 +55,19 @@ other-12 : {n : ℕ} → T (not (eqb n 12)) → n ≢ 12
 other-12 h e = rw e at h
 
 module _ (v : Setting) (r : Relay) (xs : List ℤ) (adm : admissible r ≡ true) (same : r .setting ≡ v) where
-  first-passed : not (admissible r) ≡ false
-  first-passed = rw adm
+  -- 12 is passed
+  pub sample-reply : sampleReply r xs ≡ firstOf (setRows v xs) (replyNow r (windowAfter r xs))
+  unfolding sampleRows
+  sample-reply = rw adm (ap (λ (w : Setting). firstOf (setRows w xs) (replyNow r (windowAfter r xs))) same)
 
   pub sample-gives : accepted v xs ≡ true → sampleReply r xs ≡ gives (replyNow r (windowAfter r xs))
-  unfolding sampleRows
-  sample-gives e = passed-gives (first-passed & none-passed (setRows (r .setting) xs) (rw (same, e) tt)) _
+  sample-gives e = sample-reply ∙ none-gives (setRows v xs) (rw e tt) _
 
   pub sample-declines : accepted v xs ≡ false → Other (sampleReply r xs)
-  unfolding sampleRows setRows
+  unfolding setRows
   sample-declines e =
-      let d : Stopped (setRows (r .setting) xs) = stopped (setRows (r .setting) xs) (rw (same, e)) in
-      record { number = d .number; is = stops-declines (later first-passed (d .stops)) _; not-12 = other-12 (d .among (λ n. not (eqb n 12)) tt) }
+      let d : Stopped (setRows v xs) = stopped (setRows v xs) e in
+      record { number = d .number; is = sample-reply ∙ stops-declines (d .stops) _; not-12 = other-12 (d .among (λ n. not (eqb n 12)) tt) }
 
 module _ (r : Relay) (adm : admissible r ≡ true) where
   pub reset-gives : resetReply r ≡ gives (tt {0})

@@ -4,18 +4,18 @@ use mathlib.Core.List.{List, [], _∷_, _++_, flatten}
 use lib.Dec.{T}
 use lib.IntN.{ℤ}
 use Rattle.lists.specs.Tests.{Each, none, _&_}
-use Rattle.lists.proofs.TestLaws.{is-true, each-append}
+use Rattle.lists.proofs.TestLaws.{each-append}
 use Rattle.lists.proofs.Places.{length-upTo}
-use Rattle.refusal.specs.Refusals.{gives}
+use Rattle.refusal.specs.Refusals.{firstOf}
 use Rattle.setting.specs.declared.Setting.{Setting}
 use Rattle.setting.specs.Values.{startable}
 use Rattle.matching.specs.Sets.{numbers}
 use Rattle.state.specs.declared.Window.{Window}
 use Rattle.relay.specs.declared.Relay.{Relay}
 use Rattle.relay.specs.Record.{fresh}
-use Rattle.relay.specs.Calls.{windowAfter, replyNow, relayNow, cleared}
+use Rattle.relay.specs.Calls.{setRows, windowAfter, replyNow, relayNow, cleared}
 use Rattle.relay.specs.Lists.{Call, run}
-use Rattle.relay.proofs.Cases.{sample-gives, reset-gives}
+use Rattle.relay.proofs.Cases.{sample-reply, reset-gives}
 use Rattle.relay.proofs.Kept.{Valid, Step, files, declines, clears}
 use Rattle.relay.proofs.Induction.{Invariant, along, last, any-call}
 use Rattle.stability.specs.Lists.{filing, filed, last12, windowOf, SettingKept, WindowFiled, Answered, ResetAccepted}
@@ -57,10 +57,10 @@ window-filed v s cs = after-run v s cs .1 .window
 
 pub answered : Answered
 unfolding Answered
-answered v s cs xs t =
+answered v s cs xs =
     let (h, f) = after-run v s cs in
     let r = run (fresh v) cs in
-    sample-gives v r xs (h .ok) (h .same) (is-true t) ∙ ap (λ (w : Window). gives (replyNow r w)) (window-now h f xs)
+    sample-reply v r xs (h .ok) (h .same) ∙ ap (λ (w : Window). firstOf (setRows v xs) (replyNow r w)) (window-now h f xs)
 
 pub reset-accepted : ResetAccepted
 unfolding ResetAccepted

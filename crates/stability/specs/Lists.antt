@@ -6,13 +6,13 @@ use Prim.Native.Nat.{_*_, _-_}
 use lib.Dec.{T}
 use lib.IntN.{ℤ, pos}
 use lib.ListN.{length, drop, replicate}
-use Rattle.refusal.specs.Refusals.{gives}
+use Rattle.refusal.specs.Refusals.{gives, firstOf}
 use Rattle.setting.specs.declared.Setting.{Setting}
 use Rattle.setting.specs.Values.{startable}
 use Rattle.matching.specs.Sets.{numbers}
 use Rattle.state.specs.declared.Window.{Window}
 use Rattle.relay.specs.Record.{fresh}
-use Rattle.relay.specs.Calls.{accepted, replyNow, sampleReply, resetReply}
+use Rattle.relay.specs.Calls.{setRows, accepted, replyNow, sampleReply, resetReply}
 use Rattle.relay.specs.Lists.{Call, sample, reset, run}
 
 -- The accepted sets of a list, by their matched numbers, in order: those so far, and what a call adds.
@@ -39,11 +39,12 @@ SettingKept = (v : Setting) → T (startable v) → (cs : List Call) → run (fr
 unfoldable pub WindowFiled : Type 0
 WindowFiled = (v : Setting) → T (startable v) → (cs : List Call) → run (fresh v) cs .window ≡ windowOf (last12 (filed v cs))
 
--- And the next accepted set is answered by the definitions from that window with the set filed: Filling with the number held, or Measured.
+-- And the next set is declined by the first of 14, 10, 11 that applies, and so never by 12; or it is answered by the definitions from that window with the
+-- set filed: Filling with the number held, or Measured.
 unfoldable pub Answered : Type 0
 Answered =
-    (v : Setting) → T (startable v) → (cs : List Call) (xs : List ℤ) → T (accepted v xs) →
-    sampleReply (run (fresh v) cs) xs ≡ gives (replyNow (run (fresh v) cs) (windowOf (last12 (filed v cs ++ (numbers v xs ∷ [])))))
+    (v : Setting) → T (startable v) → (cs : List Call) (xs : List ℤ) →
+    sampleReply (run (fresh v) cs) xs ≡ firstOf (setRows v xs) (replyNow (run (fresh v) cs) (windowOf (last12 (filed v cs ++ (numbers v xs ∷ [])))))
 
 -- And the next reset is accepted.
 unfoldable pub ResetAccepted : Type 0

@@ -1,4 +1,4 @@
--- Texts put one after the other are put as one; and one that is put after the text of a buffer whose other bytes are all the same.
+-- Texts put one after the other are put as one, and there is room for each where there is room for all.
 use mathlib.Core.Path.{_≡_, sym, ap, _∙_}
 use mathlib.Core.List.{List, _++_, append-assoc}
 use Prim.Native.Nat.{ℕ, _+_, _-_, _≤_}
