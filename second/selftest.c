@@ -57,7 +57,7 @@ static void check_matching(void)
         uint8_t group, filter;
         int16_t sample[3];
         int32_t matched[3];
-    } table[] = {{500, 0, 0, {1, -1, 0}, {1, 0, 0}},
+    } table[] = {{500, 0, 0, {1, -1, 0}, {1, -1, 0}},
                  {1000, 5, 0, {1000, 0, -1000}, {-1155, 577, 577}},
                  {1000, 5, 1, {1000, 0, -1000}, {-1155, 577, 577}},
                  {1000, 0, 1, {300, 0, 0}, {200, -100, -100}}};
@@ -77,12 +77,72 @@ static void check_matching(void)
     }
 }
 
-/* Quotient rounded down, for any sign of top. */
-static int64_t floor_of(__int128 top, __int128 bottom)
+/* Quotient to the nearest, a half going away from zero: the whole number toward
+ * zero, or the next if what is left of top is half of bottom or more. */
+static int64_t away_of(__int128 top, __int128 bottom)
 {
-    __int128 quotient = top / bottom;
+    __int128 quotient = top / bottom, left = top % bottom;
 
-    return (int64_t)(quotient * bottom > top ? quotient - 1 : quotient);
+    if (2 * left >= bottom)
+        quotient++;
+    if (2 * left <= -bottom)
+        quotient--;
+    return (int64_t)quotient;
+}
+
+/* The rounding of matched numbers at halves and beside them, on both sides of
+ * zero: factors of 1/2 and of 5/8. */
+static void check_matched_halves(void)
+{
+    static const struct {
+        uint32_t current;
+        int16_t sample[3];
+        int32_t matched[3];
+    } table[] = {{500, {0, 1, 2}, {0, 1, 1}},
+                 {500, {3, 4, 5}, {2, 2, 3}},
+                 {500, {0, -1, -2}, {0, -1, -1}},
+                 {500, {-3, -4, -5}, {-2, -2, -3}},
+                 {500, {31999, 32000, 7}, {16000, 16000, 4}},
+                 {500, {-31999, -32000, -7}, {-16000, -16000, -4}},
+                 {625, {3, 4, 5}, {2, 3, 3}},
+                 {625, {11, 12, 13}, {7, 8, 8}},
+                 {625, {-3, -4, -5}, {-2, -3, -3}},
+                 {625, {-11, -12, -13}, {-7, -8, -8}}};
+    struct setting s = plain_setting;
+
+    for (size_t i = 0; i < sizeof table / sizeof table[0]; i++) {
+        int16_t list[SET_NUMBERS] = {0};
+        int32_t v[SET_NUMBERS];
+
+        s.end[0].current = table[i].current;
+        memcpy(list, table[i].sample, sizeof table[i].sample);
+        match_set(&s, list, v);
+        for (size_t y = 0; y < 3; y++)
+            meet("matched half", v[y], table[i].matched[y]);
+    }
+}
+
+/* The rounding of c and s at halves and beside them: a number u at place 0 has c
+ * u/6 and s 0, at place 3 it has c 0 and s u/6, and at both c and s are u/6. */
+static void check_amplitude_halves(void)
+{
+    static const struct {
+        int32_t u, one, both;
+    } table[] = {{0, 0, 0},  {2, 0, 0},  {3, 1, 1},  {4, 1, 1},
+                 {8, 1, 1},  {9, 2, 2},  {10, 2, 2}, {14, 2, 2},
+                 {15, 3, 4}, {16, 3, 4}, {20, 3, 4}, {21, 4, 5},
+                 {3199995, 533333, 754246}};
+
+    for (size_t i = 0; i < sizeof table / sizeof table[0]; i++)
+        for (int32_t sign = -1; sign <= 1; sign += 2) {
+            int32_t u = sign * table[i].u;
+            const int32_t c[12] = {u}, s[12] = {0, 0, 0, u};
+            const int32_t both[12] = {u, 0, 0, u};
+
+            meet("half of c", amplitude(c, 1), table[i].one);
+            meet("half of s", amplitude(s, 1), table[i].one);
+            meet("half of both", amplitude(both, 1), table[i].both);
+        }
 }
 
 /* The list of group operations, each over 1351 * 3, for the three phases
@@ -134,7 +194,7 @@ static void check_groups(void)
             __int128 top = (__int128)matching_factor(&s, z) * t;
             __int128 bottom = (__int128)65536 * 1351 * 3;
 
-            meet("group", v[3 * z + y], floor_of(2 * top + bottom, 2 * bottom));
+            meet("group", v[3 * z + y], away_of(top, bottom));
         }
     }
 }
@@ -150,8 +210,8 @@ static int64_t defined_amplitude(const int32_t *u, unsigned h)
         c += t[h * k % 12] * u[k];
         s += t[(h * k + 9) % 12] * u[k];
     }
-    c = floor_of(2 * (__int128)c + 9360, 2 * 9360);
-    s = floor_of(2 * (__int128)s + 9360, 2 * 9360);
+    c = away_of(c, 9360);
+    s = away_of(s, 9360);
     for (int64_t bit = (int64_t)1 << 30; bit != 0; bit >>= 1)
         if ((root + bit) * (root + bit) <= c * c + s * s)
             root += bit;
@@ -454,8 +514,10 @@ int main(void)
 {
     check_factors();
     check_matching();
+    check_matched_halves();
     check_groups();
     check_amplitudes();
+    check_amplitude_halves();
     check_characteristic();
     check_refusals();
     check_records();
