@@ -158,19 +158,6 @@ static void scene_set(struct draw *d, struct scene *scene, int16_t *list)
     scene->time++;
 }
 
-/* Makes a set one that a relay declines: by size, by an unused end, or both. */
-static void spoil_set(struct draw *d, const struct setting *s, int16_t *list)
-{
-    static const int16_t beyond[4] = {32001, -32001, 32767, -32768};
-    int64_t kind = draw_from(d, 0, 2);
-    size_t unused = 3u * s->ends;
-
-    if (s->ends == MAX_ENDS || kind != 0)
-        list[draw_from(d, 0, 11)] = beyond[draw_from(d, 0, 3)];
-    if (s->ends < MAX_ENDS && kind != 1)
-        list[draw_from(d, (int64_t)unused, 11)] |= (int16_t)draw_spread(d, 1, 999);
-}
-
 /* Spoils one set of 25. */
 static void maybe_spoil(struct draw *d, const struct setting *s, int16_t *list)
 {

@@ -197,6 +197,17 @@ void draw_wide_setting(struct draw *d, struct setting *s)
     }
 }
 
+/* Factors of whole eighths, 0.5 to 4: many a sample then lies halfway between
+ * two matched numbers. */
+void draw_eighths(struct draw *d, struct setting *s)
+{
+    s->power = 1351;
+    for (size_t z = 0; z < s->ends; z++) {
+        s->end[z].voltage = 780;
+        s->end[z].current = (uint32_t)(125 * draw_from(d, 4, 32));
+    }
+}
+
 /* ---- Waves ---- */
 
 /* One cycle of a cosine in twelve steps, in 1/1560. */
@@ -216,6 +227,27 @@ int16_t clip_sample(int64_t sample)
     if (sample > SAMPLE_LIMIT)
         return SAMPLE_LIMIT;
     return (int16_t)(sample < -SAMPLE_LIMIT ? -SAMPLE_LIMIT : sample);
+}
+
+/* Makes a set one that a relay declines: by size, by an unused end, or both. */
+void spoil_set(struct draw *d, const struct setting *s, int16_t list[SET_NUMBERS])
+{
+    static const int16_t beyond[4] = {32001, -32001, 32767, -32768};
+    int64_t kind = draw_from(d, 0, 2);
+    size_t unused = 3u * s->ends;
+
+    if (s->ends == MAX_ENDS || kind != 0)
+        list[draw_from(d, 0, 11)] = beyond[draw_from(d, 0, 3)];
+    if (s->ends < MAX_ENDS && kind != 1)
+        list[draw_from(d, (int64_t)unused, 11)] |= (int16_t)draw_spread(d, 1, 999);
+}
+
+/* Negates every sample, as with all leads reversed. -32,768 becomes 32,767,
+ * which is declined like it. */
+void turn_samples(int16_t *list, size_t n)
+{
+    for (size_t i = 0; i < n; i++)
+        list[i] = (int16_t)(list[i] == INT16_MIN ? INT16_MAX : -list[i]);
 }
 
 /* Samples that a current of the given level at reference becomes at an end. */

@@ -29,6 +29,7 @@ extern const struct setting plain_setting;
 void aim_factor(struct draw *d, uint32_t power, int64_t factor, struct end *end);
 void draw_setting(struct draw *d, uint8_t ends, struct setting *s);
 void draw_wide_setting(struct draw *d, struct setting *s);
+void draw_eighths(struct draw *d, struct setting *s);
 
 /* A current in every phase of every end: fundamental, second and fifth. */
 struct wave {
@@ -39,6 +40,8 @@ void draw_wave(struct draw *d, const struct setting *s, int64_t level,
 void wave_set(const struct wave *wave, const struct setting *s, size_t k,
               int16_t list[SET_NUMBERS]);
 int16_t clip_sample(int64_t sample);
+void spoil_set(struct draw *d, const struct setting *s, int16_t list[SET_NUMBERS]);
+void turn_samples(int16_t *list, size_t n);
 int aim_high_set(struct draw *d, const int16_t list[WINDOW_NUMBERS],
                  struct setting *s);
 

@@ -7,7 +7,7 @@
 #include <string.h>
 
 #define VECTORS 600
-#define KINDS 14
+#define KINDS 15
 #define RETRIES 40
 #define FILLED 7
 
@@ -76,6 +76,18 @@ static void edge_window(struct draw *d, struct vector *v)
         else
             v->list[i] = draw_chance(d, 4) ? edge[draw_from(d, 0, 5)] : 0;
     }
+}
+
+/* Factors and samples that often lead to halves: of matched numbers, and of c
+ * and s, as only every third set has samples other than zero. */
+static void halves_window(struct draw *d, struct vector *v)
+{
+    int64_t top = draw_spread(d, 4, SAMPLE_LIMIT);
+
+    draw_eighths(d, &v->setting);
+    for (size_t i = 0; i < WINDOW_NUMBERS; i++)
+        if (i / 12 % 3 == 0 && i % 12 < 3u * v->setting.ends)
+            v->list[i] = (int16_t)draw_from(d, -top, top);
 }
 
 /* Through current of a healthy bank, with a fault on top of it or not. */
@@ -260,6 +272,7 @@ static void build(struct draw *d, size_t i, struct vector *v)
     case 7: through_window(d, v); break;
     case 8: wave_window(d, v, 40000, 3); aim_harmonics(d, v); break;
     case 9: case 10: harmonic_window(d, v); break;
+    case 11: halves_window(d, v); break;
     default: limit_window(d, v); break;
     }
 }
