@@ -510,6 +510,223 @@ static void check_trip(void)
     }
 }
 
+/* ---- Turned current transformers ---- */
+
+#define TURNED_LISTS 4000
+#define TURNED_CALLS 30
+
+/* What goes on in a list of calls. */
+struct scene {
+    struct setting setting;
+    unsigned kind;
+    struct wave wave;
+    struct bank bank;
+};
+
+/* Calls of the lists: in all, and those that end in each of these. */
+static struct {
+    unsigned calls, refused, full, started, blocked, latched;
+} turned;
+
+/* Counts a sample call. */
+static void count_turned(enum refusal refusal, const struct answer *a)
+{
+    int started = 0, blocked = 0, latched = 0;
+
+    for (size_t y = 0; y < SYSTEMS; y++) {
+        started |= a->system[y].start;
+        blocked |= a->system[y].blocked;
+        latched |= a->latched[y];
+    }
+    turned.calls++;
+    turned.refused += refusal != ACCEPTED;
+    turned.full += refusal == ACCEPTED && a->filling == 0;
+    turned.started += (unsigned)started;
+    turned.blocked += (unsigned)blocked;
+    turned.latched += (unsigned)latched;
+}
+
+/* Whether two answers are the same in every field. */
+static int answer_same(const struct answer *a, const struct answer *b)
+{
+    int same = a->filling == b->filling;
+
+    for (size_t y = 0; y < SYSTEMS; y++) {
+        const struct measured *m = &a->system[y], *o = &b->system[y];
+
+        same &= m->differential == o->differential && m->restraint == o->restraint &&
+                m->second == o->second && m->fifth == o->fifth &&
+                m->start == o->start && m->blocked == o->blocked &&
+                a->latched[y] == b->latched[y];
+    }
+    return same;
+}
+
+/* Whether of two records one has the other's matched numbers negated, and all
+ * else that calls can change is the same. */
+static int record_turned(const struct relay *a, const struct relay *b)
+{
+    int same = a->fill == b->fill;
+
+    for (size_t i = 0; i < WINDOW_NUMBERS; i++)
+        same &= a->values[i] == -b->values[i];
+    for (size_t y = 0; y < SYSTEMS; y++)
+        same &= a->counters[y] == b->counters[y] && a->latches[y] == b->latches[y];
+    return same;
+}
+
+/* The sample call of a list, and on the other relay that of the list turned. */
+static void turned_samples(struct relay *relay, struct relay *other, int16_t *list,
+                           size_t n)
+{
+    struct answer a = {0}, b = {0};
+    enum refusal refusal = relay_sample(relay, list, n, &a);
+
+    turn_samples(list, n);
+    meet("turned refusal", relay_sample(other, list, n, &b), refusal);
+    meet("turned answer", answer_same(&a, &b), 1);
+    meet("turned record", record_turned(relay, other), 1);
+    count_turned(refusal, &a);
+}
+
+/* The reset call of both relays. */
+static void turned_reset(struct relay *relay, struct relay *other)
+{
+    meet("reset", relay_reset(relay), 0);
+    meet("turned reset", relay_reset(other), 0);
+    meet("turned record", record_turned(relay, other), 1);
+}
+
+/* Scene number i: each number of ends, every other one with factors that make
+ * halves, and all kinds in turn; low pick-up, and few sets to confirm. */
+static void draw_turned(struct draw *d, unsigned i, struct scene *scene)
+{
+    struct setting *s = &scene->setting;
+
+    draw_setting(d, (uint8_t)(2 + i % 3), s);
+    if (i % 2)
+        draw_eighths(d, s);
+    s->confirm = (uint8_t)draw_from(d, 1, 4);
+    s->pick_up = (uint16_t)draw_from(d, 100, 600);
+    scene->kind = i / 6 % 4;
+    draw_wave(d, s, draw_spread(d, 400, 40000), (unsigned)draw_from(d, 0, 3),
+              &scene->wave);
+    draw_bank(d, s, &scene->bank);
+}
+
+/* Set number k: of a wave, of a healthy bank, noise, or noise in every third set
+ * alone, so that c and s are often halves; one of twenty is to be declined. */
+static void turned_set(struct draw *d, const struct scene *scene, size_t k,
+                       int16_t *list)
+{
+    const struct setting *s = &scene->setting;
+    int64_t top = scene->kind == 2 || k % 3 == 0 ? SAMPLE_LIMIT : 0;
+
+    memset(list, 0, SET_NUMBERS * sizeof list[0]);
+    if (scene->kind == 0)
+        wave_set(&scene->wave, s, k, list);
+    else if (scene->kind == 1)
+        healthy_set(d, s, &scene->bank, k, list);
+    else
+        for (size_t i = 0; i < 3u * s->ends; i++)
+            list[i] = (int16_t)draw_from(d, -top, top);
+    if (draw_chance(d, 5))
+        spoil_set(d, s, list);
+}
+
+/* A list of calls on two fresh relays. */
+static void turned_list(struct draw *d, const struct scene *scene)
+{
+    int16_t list[2 * SET_NUMBERS] = {0};
+    struct relay relay, other;
+    size_t offset;
+
+    meet("start", relay_start(&scene->setting, &relay, &offset), 0);
+    meet("start", relay_start(&scene->setting, &other, &offset), 0);
+    for (size_t k = 0; k < TURNED_CALLS; k++) {
+        int64_t call = draw_from(d, 0, 99);
+
+        turned_set(d, scene, k, list);
+        if (call < 5)
+            turned_reset(&relay, &other);
+        else if (call < 7)
+            turned_samples(&relay, &other, list, (size_t)draw_from(d, 0, 24));
+        else
+            turned_samples(&relay, &other, list, SET_NUMBERS);
+    }
+}
+
+/* Negating all samples of a list leaves every answer as it was (document 02,
+ * card 1); half of the windows at least are full. */
+static void check_turned_lists(void)
+{
+    struct draw d = {0x72D11ED};
+    struct scene scene;
+
+    for (unsigned i = 0; i < TURNED_LISTS; i++) {
+        draw_turned(&d, i, &scene);
+        turned_list(&d, &scene);
+    }
+    meet("half of the turned windows full", 2 * turned.full >= turned.calls, 1);
+    meet("turned sets refused", turned.refused > 0, 1);
+    meet("turned sets that start", turned.started > 0, 1);
+    meet("turned sets blocked", turned.blocked > 0, 1);
+    meet("turned sets latched", turned.latched > 0, 1);
+    printf("second: %u turned lists, %u sample calls, %u refused, %u full, "
+           "%u started, %u blocked, %u latched\n", TURNED_LISTS, turned.calls,
+           turned.refused, turned.full, turned.started, turned.blocked,
+           turned.latched);
+}
+
+/* One sample on phase A of end 0 and zeros in a window, both factors the same. */
+struct single {
+    uint32_t current;
+    size_t place;
+    int16_t sample;
+    int32_t matched, d;
+    uint8_t trip;
+};
+
+/* The window of a single sample, as it is or turned: what it comes to. */
+static void single_sample(const struct single *one, int turn)
+{
+    struct setting s = plain_setting;
+    struct relay relay;
+    struct answer a;
+    size_t offset;
+
+    s.end[0].current = s.end[1].current = one->current;
+    meet("start", relay_start(&s, &relay, &offset), 0);
+    for (size_t k = 0; k < WINDOW_SETS; k++) {
+        int16_t list[SET_NUMBERS] = {0};
+
+        list[0] = k == one->place ? one->sample : 0;
+        if (turn)
+            turn_samples(list, SET_NUMBERS);
+        meet("single set", relay_sample(&relay, list, SET_NUMBERS, &a), 0);
+    }
+    meet("single matched", relay.values[SET_NUMBERS * one->place],
+         turn ? -one->matched : one->matched);
+    meet("single D", a.system[0].differential, one->d);
+    meet("single R", a.system[0].restraint, one->d);
+    meet("single start", a.system[0].start, one->trip);
+    meet("single latch", a.latched[0], one->trip);
+}
+
+/* Single samples for which D would change when turned, if a half went up: by a
+ * half of the matched number, by one of c, and by one of c at the threshold. */
+static void check_turned_singles(void)
+{
+    static const struct single table[] = {{500, 1, 7, 4, 1, 0},
+                                          {1000, 0, 3, 3, 1, 0},
+                                          {1000, 0, 1203, 1203, 201, 1}};
+
+    for (size_t i = 0; i < sizeof table / sizeof table[0]; i++) {
+        single_sample(&table[i], 0);
+        single_sample(&table[i], 1);
+    }
+}
+
 int main(void)
 {
     check_factors();
@@ -527,6 +744,8 @@ int main(void)
     check_sample_reader();
     check_bench();
     check_trip();
+    check_turned_singles();
+    check_turned_lists();
     if (failures != 0) {
         printf("second: selftest %u of %u checks fail\n", failures, checks);
         return 1;
