@@ -3,17 +3,21 @@
  * relay, each set of a sample block is one sample call, a reset block is one
  * reset call, and a list block one sample call of a list of any length. Between
  * calls, a change block puts a part of the relay record to another value, and
- * a print block has the record printed. */
+ * a print block has the record printed. Some records come once more with every
+ * sample negated: the answers must be the same. */
 #include "parts.h"
 
 #include <stdarg.h>
 #include <stdio.h>
+#include <stdlib.h>
 #include <string.h>
 
 #define RECORDS 300         /* of calls alone */
 #define ROUND 10            /* changes in a record of calls and changes */
 #define ROUNDS (3 * CHANGES / ROUND)
 #define MOST_BLOCKS 140
+#define MOST_TEXT 65536     /* that a record's answers take */
+#define TURNED 11           /* one of so many records of calls comes turned too */
 #define LIST_KIND 0x4C
 #define PRINT_KIND 0x50
 #define RESET_KIND 0x52
@@ -29,28 +33,44 @@ struct record {
     int healthy, kept;
 };
 
+/* What the calls of a record come to: the lines, the relay after them, and sets
+ * that are measured, that start and that show a latch. */
+struct outcome {
+    char text[MOST_TEXT];
+    size_t length;
+    struct relay relay;
+    unsigned measured, started, latched;
+};
+
 /* Calls by what is asked, and what may be wrong with a record. */
 enum asked { SOUND_SET, UNSOUND_SET, NO_SET, RESET, ASKED };
 enum fault {
     NONE, BREAKS_4, BREAKS_5, BREAKS_6, BREAKS_7, FILL, NUMBER, COUNTER, FAULTS
 };
 
-/* What a run has: records, answers, refusals 12 by the call, and changes by
- * their part and by the fault that they make. */
+/* What a run has: records, answers, refusals 12 by the call, changes by their
+ * part and by the fault that they make; and of the turned records how many
+ * there are, and their sets measured, that start and that show a latch. */
 static struct {
-    unsigned records, answers, declined[ASKED], changes[4][FAULTS];
+    unsigned records, answers, declined[ASKED], changes[4][FAULTS], turned[4];
 } told;
 
-/* Prints a part of an answer, but where a record is only followed. */
-static int quiet;
+/* Writes a part of an answer down; nowhere while a record is only followed. */
+static struct outcome *heard;
 static void say(const char *format, ...)
 {
     va_list list;
 
+    if (heard == NULL)
+        return;
     va_start(list, format);
-    if (!quiet)
-        vprintf(format, list);
+    heard->length += (size_t)vsnprintf(heard->text + heard->length,
+                                       MOST_TEXT - heard->length, format, list);
     va_end(list);
+    if (heard->length >= MOST_TEXT) {
+        fputs("calls: no room for a record's answers\n", stderr);
+        exit(1);
+    }
 }
 
 /* What goes on at the bank: a fault now on, now off, for some sets. */
@@ -111,7 +131,7 @@ static void aim_scene(struct draw *d, struct scene *scene)
 }
 
 /* Scene number i: kinds in turn, and for each kind all confirm counts in
- * turn; mostly low pick-up. */
+ * turn; every third with factors that make halves; mostly low pick-up. */
 static void draw_scene(struct draw *d, size_t i, struct scene *scene)
 {
     static const enum scene_kind kind[10] = {HEALTHY, FAULT, INRUSH, BURSTS, NOISE,
@@ -121,6 +141,8 @@ static void draw_scene(struct draw *d, size_t i, struct scene *scene)
     memset(scene, 0, sizeof *scene);
     scene->kind = kind[i % 10];
     draw_setting(d, (uint8_t)draw_from(d, 2, 4), s);
+    if (i % 3 == 1)
+        draw_eighths(d, s);
     s->confirm = (uint8_t)(1 + i / 10 % 24);
     s->pick_up = (uint16_t)draw_from(d, 100, draw_chance(d, 70) ? 600 : 2500);
     if (scene->kind == HEALTHY && draw_chance(d, 70))
@@ -210,12 +232,30 @@ static void add_refused_samples(struct draw *d, struct scene *scene,
     r->calls = calls;
 }
 
+/* So many numbers into a list block. */
+static void lay_list(const int16_t *list, size_t n, uint8_t *block)
+{
+    block[0] = LIST_KIND;
+    block[1] = (uint8_t)n;
+    for (size_t i = 0; i < n; i++) {
+        block[4 + 2 * i] = (uint8_t)list[i];
+        block[5 + 2 * i] = (uint8_t)((uint16_t)list[i] >> 8);
+    }
+}
+
+/* The numbers out of a list block, and how many they are. */
+static size_t take_list(const uint8_t *block, int16_t *list)
+{
+    for (size_t i = 0; i < block[1]; i++)
+        list[i] = (int16_t)(uint16_t)(block[4 + 2 * i] | block[5 + 2 * i] << 8);
+    return block[1];
+}
+
 /* A list block; of twelve numbers it holds a set of the scene. */
 static void add_list(struct draw *d, struct scene *scene, struct record *r)
 {
     static const uint8_t length[6] = {0, 11, 13, 24, 252, 36};
     size_t n = draw_chance(d, 50) ? 12 : length[draw_from(d, 0, 5)];
-    uint8_t *block = next_block(r);
     int16_t list[BLOCK_NUMBERS];
 
     if (draw_chance(d, 10))
@@ -226,12 +266,7 @@ static void add_list(struct draw *d, struct scene *scene, struct record *r)
         scene_set(d, scene, list);
         maybe_spoil(d, &scene->setting, list);
     }
-    block[0] = LIST_KIND;
-    block[1] = (uint8_t)n;
-    for (size_t i = 0; i < n; i++) {
-        block[4 + 2 * i] = (uint8_t)list[i];
-        block[5 + 2 * i] = (uint8_t)((uint16_t)list[i] >> 8);
-    }
+    lay_list(list, n, next_block(r));
     r->calls++;
 }
 
@@ -325,11 +360,27 @@ static int healthy_answer(const struct answer *a, size_t ends)
 /* Counts an answer; of a refusal 12, by the call that it declines. */
 static void count_answer(enum refusal refusal, enum asked asked)
 {
-    if (quiet)
+    if (heard == NULL)
         return;
     told.answers++;
     if (refusal == RECORD_WRONG)
         told.declined[asked]++;
+}
+
+/* Counts a measured set. */
+static void count_measured(const struct answer *a)
+{
+    int started = 0, latched = 0;
+
+    if (heard == NULL)
+        return;
+    for (size_t y = 0; y < SYSTEMS; y++) {
+        started |= a->system[y].start;
+        latched |= a->latched[y];
+    }
+    heard->measured++;
+    heard->started += (unsigned)started;
+    heard->latched += (unsigned)latched;
 }
 
 /* What a sample call asks: whether 14, or 10 or 11, would decline it too. */
@@ -359,6 +410,7 @@ static int sample_call(struct relay *relay, const int16_t *list, size_t n)
         say("F %u\n", a.filling);
         return 1;
     }
+    count_measured(&a);
     say("M");
     for (size_t y = 0; y < SYSTEMS; y++) {
         const struct measured *m = &a.system[y];
@@ -391,10 +443,9 @@ static int sample_calls(struct relay *relay, const uint8_t *block)
 static int list_call(struct relay *relay, const uint8_t *block)
 {
     int16_t list[BLOCK_NUMBERS] = {0};
+    size_t n = take_list(block, list);
 
-    for (size_t i = 0; i < block[1]; i++)
-        list[i] = (int16_t)(uint16_t)(block[4 + 2 * i] | block[5 + 2 * i] << 8);
-    return sample_call(relay, list, block[1]);
+    return sample_call(relay, list, n);
 }
 
 /* The reset call and its line. */
@@ -459,10 +510,8 @@ static int call_block(struct relay *relay, const uint8_t *block)
 /* The relay after the blocks that came since it was followed last. */
 static void follow(struct record *r, struct relay *relay)
 {
-    quiet = 1;
     for (; r->followed < r->blocks; r->followed++)
         call_block(relay, r->block[r->followed]);
-    quiet = 0;
 }
 
 /* Changes a part. */
@@ -565,6 +614,53 @@ static void build_limits(struct draw *d, struct record *r)
     }
 }
 
+/* ---- Turned records ---- */
+
+/* A block with its samples negated; one that is refused, as it is. */
+static void turn_block(uint8_t *block)
+{
+    int16_t list[BLOCK_NUMBERS] = {0};
+    size_t n = 0;
+
+    if (block[0] == LIST_KIND) {
+        n = take_list(block, list);
+        turn_samples(list, n);
+        lay_list(list, n, block);
+    } else if (block[0] == SAMPLE_KIND &&
+               read_samples(block, BLOCK_BYTES, list, &n) == ACCEPTED) {
+        turn_samples(list, n);
+        write_samples(block, BLOCK_BYTES, 0, list, n);
+    }
+}
+
+/* A record of calls with all samples negated, printed after its last call. */
+static void turn_record(struct record *r)
+{
+    for (size_t i = 1; i < r->blocks; i++)
+        turn_block(r->block[i]);
+    next_block(r)[0] = PRINT_KIND;
+}
+
+/* Whether of two relays one has the other's matched numbers negated, and all
+ * else the same. */
+static int relay_turned(const struct relay *a, const struct relay *b)
+{
+    struct relay turned = *b;
+
+    for (size_t i = 0; i < WINDOW_NUMBERS; i++)
+        turned.values[i] = -turned.values[i];
+    return record_same(a, &turned);
+}
+
+/* Whether a turned record's answers are those of before, with nothing behind
+ * them but the record printed. */
+static int turned_alike(const struct outcome *turned, const struct outcome *before)
+{
+    return memcmp(turned->text, before->text, before->length) == 0 &&
+           strncmp(turned->text + before->length, "record ", 7) == 0 &&
+           relay_turned(&turned->relay, &before->relay);
+}
+
 /* ---- The run ---- */
 
 /* Record number i: first those of calls alone, each sixth of them on a refused
@@ -583,17 +679,47 @@ static void build(struct draw *d, size_t i, struct record *r)
         build_calls(d, i / 6 * 5 + i % 6, r);
 }
 
+/* Whether record number i comes turned as well: some of those of calls alone,
+ * on a relay that starts. */
+static int comes_turned(size_t i)
+{
+    return i < RECORDS && i % 6 != 5 && (i / 6 * 5 + i % 6) % TURNED == 0;
+}
+
+/* The lines that were written down. */
+static int put_text(const struct outcome *out)
+{
+    return fwrite(out->text, 1, out->length, stdout) == out->length;
+}
+
 /* The lines of one record; 0 when a healthy bank starts or differs, or a
  * refused call changed the relay record. */
-static int put_expected(const struct record *r)
+static int put_expected(const struct record *r, struct outcome *out)
 {
-    struct relay relay;
-    int started = setting_call(&relay, r->block[0], BLOCK_BYTES), right = 1;
+    int started, right = 1;
 
+    memset(out, 0, sizeof *out);
+    heard = out;
+    started = setting_call(&out->relay, r->block[0], BLOCK_BYTES);
     for (size_t i = 1; started && i < r->blocks; i++)
-        right &= call_block(&relay, r->block[i]);
+        right &= call_block(&out->relay, r->block[i]);
+    heard = NULL;
     told.records++;
-    return r->kept && (right || !r->healthy);
+    return put_text(out) && r->kept && (right || !r->healthy);
+}
+
+/* The lines of a turned record; 0 when the answers are not those of before. */
+static int put_turned(const struct record *r, const struct outcome *before)
+{
+    static struct outcome out;
+
+    if (!put_expected(r, &out) || !turned_alike(&out, before))
+        return 0;
+    told.turned[0]++;
+    told.turned[1] += out.measured;
+    told.turned[2] += out.started;
+    told.turned[3] += out.latched;
+    return 1;
 }
 
 /* The blocks of one record. */
@@ -602,18 +728,38 @@ static int put_input(const struct record *r)
     return fwrite(r->block, BLOCK_BYTES, r->blocks, stdout) == r->blocks;
 }
 
+/* Record number i, and turned where it comes so; 0 when something is not as it
+ * must be. */
+static int put(struct draw *d, size_t i, int input)
+{
+    static struct record r;
+    static struct outcome out;
+
+    build(d, i, &r);
+    if (!(input ? put_input(&r) : put_expected(&r, &out)))
+        return 0;
+    if (!comes_turned(i))
+        return 1;
+    turn_record(&r);
+    return input ? put_input(&r) : put_turned(&r, &out);
+}
+
 /* The stream's end: a setting block that lacks its last byte. */
 static int put_short(struct draw *d, int input)
 {
+    static struct outcome out;
     uint8_t block[BLOCK_BYTES];
     struct setting s;
-    struct relay relay;
+    int started;
 
     draw_setting(d, 2, &s);
     lay_setting(&s, block);
     if (input)
         return fwrite(block, 1, BLOCK_BYTES - 1, stdout) == BLOCK_BYTES - 1;
-    return !setting_call(&relay, block, BLOCK_BYTES - 1);
+    heard = &out;
+    started = setting_call(&out.relay, block, BLOCK_BYTES - 1);
+    heard = NULL;
+    return put_text(&out) && !started;
 }
 
 /* Tells numbers and their sum; whether none of them is zero. */
@@ -634,8 +780,9 @@ static int tell(const char *what, const unsigned *number, size_t n)
 }
 
 /* Tells what the run has; whether every kind of refusal 12 and of change is
- * among it. A change of the setting can break 4 to 7, or leave a counter above
- * M; one of another part breaks that part's rule. */
+ * among it, and turned records that start and latch. A change of the setting can
+ * break 4 to 7, or leave a counter above M; one of another part breaks that
+ * part's rule. */
 static int all_told(void)
 {
     const unsigned *s = told.changes[SETTING_PART], *f = told.changes[FILL_PART];
@@ -645,6 +792,10 @@ static int all_told(void)
                               s[COUNTER],  f[FILL],     v[NUMBER],   c[COUNTER]};
 
     fprintf(stderr, "calls: %u records, %u answers\n", told.records, told.answers);
+    fprintf(stderr, "calls: %u records turned, sets measured %u, started %u, latched "
+            "%u\n", told.turned[0], told.turned[1], told.turned[2], told.turned[3]);
+    if (told.turned[2] == 0 || told.turned[3] == 0)
+        return 0;
     return tell("refused 12", told.declined, ASKED) &
            tell("changes within the rules", within, 4) &
            tell("changes past them", past, 8);
@@ -652,21 +803,19 @@ static int all_told(void)
 
 int main(int argc, char **argv)
 {
-    static struct record r;
     struct draw d = {0xCA115};
-    int input = argc == 2 && strcmp(argv[1], "input") == 0, right = 1;
+    int input = argc == 2 && strcmp(argv[1], "input") == 0;
 
     if (!input && (argc != 2 || strcmp(argv[1], "expect") != 0)) {
         fputs("usage: calls input|expect\n", stderr);
         return 2;
     }
-    for (size_t i = 0; i <= RECORDS + ROUNDS && right; i++) {
-        build(&d, i, &r);
-        right = input ? put_input(&r) : put_expected(&r);
-        if (!right)
+    for (size_t i = 0; i <= RECORDS + ROUNDS; i++)
+        if (!put(&d, i, input)) {
             fprintf(stderr, "calls: record %zu is not as it must be\n", i);
-    }
-    if (!right || !put_short(&d, input) || (!input && !all_told()))
+            return 1;
+        }
+    if (!put_short(&d, input) || (!input && !all_told()))
         return 1;
     return fflush(stdout) != 0;
 }
