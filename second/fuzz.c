@@ -1,6 +1,7 @@
 /* Compares the host's two calls with the second program on random pairs of a
  * setting block and a sample block: mostly sound, some damaged, at more than
- * one place too. */
+ * one place too. A sample block that is read is then measured with its samples
+ * negated, which must give the same number. */
 #include "../include/tdp.h"
 #include "draw.h"
 
@@ -118,8 +119,23 @@ static void build(struct draw *d, struct pair *p)
         damage(d, p->samples, &p->samples_length);
 }
 
+/* The pair with every sample negated; 0 when the sample block is not read. */
+static int turn_pair(const struct pair *p, struct pair *turned)
+{
+    int16_t list[BLOCK_NUMBERS];
+    size_t n = 0;
+
+    if (read_samples(p->samples, p->samples_length, list, &n) != ACCEPTED)
+        return 0;
+    turn_samples(list, n);
+    *turned = *p;
+    write_samples(turned->samples, BLOCK_BYTES, 0, list, n);
+    return 1;
+}
+
 /* Whether both calls give what the second program gives; shows it if not. */
-static int same(const struct pair *p, size_t i, uint32_t measured, int show)
+static int same(const struct pair *p, const char *what, size_t i, uint32_t measured,
+                int show)
 {
     struct setting s;
     size_t offset;
@@ -131,17 +147,17 @@ static int same(const struct pair *p, size_t i, uint32_t measured, int show)
     if (ours == measured && ours_read == read)
         return 1;
     if (show)
-        printf("fuzz: block %zu, measured tdp %u second %u, read tdp %u second %u\n",
-               i, ours, measured, ours_read, read);
+        printf("fuzz: %s %zu, measured tdp %u second %u, read tdp %u second %u\n",
+               what, i, ours, measured, ours_read, read);
     return 0;
 }
 
 int main(int argc, char **argv)
 {
-    static struct pair p;
+    static struct pair p, t;
     struct draw d = {0xF022};
     unsigned long count = argc > 1 ? strtoul(argv[1], NULL, 10) : DEFAULT_COUNT;
-    unsigned long latched = 0, refused = 0, differ = 0;
+    unsigned long latched = 0, refused = 0, turned = 0, differ = 0;
 
     for (size_t i = 0; i < count; i++) {
         uint32_t measured;
@@ -151,9 +167,13 @@ int main(int argc, char **argv)
                                  p.samples_length);
         latched += measured > 100;
         refused += measured < 100;
-        differ += !same(&p, i, measured, differ < SHOWN);
+        differ += !same(&p, "block", i, measured, differ < SHOWN);
+        if (turn_pair(&p, &t)) {
+            turned++;
+            differ += !same(&t, "turned block", i, measured, differ < SHOWN);
+        }
     }
-    printf("fuzz: %lu tried, %lu latched, %lu refused, %lu differ\n", count, latched,
-           refused, differ);
+    printf("fuzz: %lu tried, %lu latched, %lu refused, %lu turned, %lu differ\n", count,
+           latched, refused, turned, differ);
     return differ != 0;
 }
