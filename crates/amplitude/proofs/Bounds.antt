@@ -1,5 +1,5 @@
--- Bounds of the sums and of the amplitude, from a bound on the twelve numbers. The constants enter by the sum of their sizes, and `nearest` by its
--- half-unit law.
+-- Bounds of the sums and of the amplitude, from a bound on the twelve numbers. The constants enter by the sum of their sizes, and `nearestAway` by
+-- its half-unit law.
 use mathlib.Core.Path.{_≡_, refl}
 use mathlib.Core.Bool.{Bool}
 use mathlib.Core.List.{List}
@@ -12,7 +12,7 @@ use Rattle.integer.specs.Within.{_within_}
 use Rattle.integer.specs.Sum.{sum}
 use Rattle.integer.proofs.Reading.{ints, _⇒_}
 use Rattle.integer.proofs.Laws.{within-≤, within-*}
-use Rattle.integer.proofs.HalfUnit.{nearest-near}
+use Rattle.integer.proofs.HalfUnit.{nearestAway-near}
 use Rattle.integer.proofs.RootLaws.{root-is, root-≤}
 use Rattle.integer.proofs.SumLaws.{sum-within, weight, weighted}
 use Rattle.lists.proofs.TestLaws.{test-each, each-get}
@@ -49,7 +49,7 @@ partial-within h from z n l = within-≤ (sum-within (1560 * 3200000) n _ (λ k 
 -- c or s, of a sum within w
 quotient-within : (h from w : ℕ) (u : ℕ → ℤ) → weightedSum h from u within w → cycle h from u within ((9360 + 2 * w) / 18720)
 unfolding cycle
-quotient-within h from w u small = nearest-near (weightedSum h from u) 9360 (omega arith) ⇒ small ⇒ simp ints (omega arith)
+quotient-within h from w u small = nearestAway-near (weightedSum h from u) 9360 (omega arith) ⇒ small ⇒ simp ints (omega arith)
 
 pub cycle-small : (h from : ℕ) {us : List ℤ} → CycleInput us → cycle h from (inOrder us) within 6400000
 unfolding weightedSum

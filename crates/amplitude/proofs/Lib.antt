@@ -1,4 +1,5 @@
--- Bounds of the sums and of the amplitude, the limits of D, and that the amplitude looks at twelve numbers only.
+-- Bounds of the sums and of the amplitude, the limits of D, that the amplitude looks at twelve numbers only, and what negated numbers give.
 mod Bounds
 pub mod PeakLaws
 pub mod Same
+pub mod Negated

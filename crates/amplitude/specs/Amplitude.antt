@@ -4,7 +4,7 @@ use mathlib.Core.List.{List, [], _∷_}
 use Prim.Native.Nat.{ℕ, _+_, _*_, _%_}
 use lib.IntN.{ℤ, pos, negsuc, natAbs, _*ℤ_}
 use lib.ListN.{getD}
-use Rattle.integer.specs.Nearest.{nearest}
+use Rattle.integer.specs.Nearest.{nearestAway}
 use Rattle.integer.specs.Root.{root}
 use Rattle.integer.specs.Sum.{sum}
 use Rattle.amplitude.specs.declared.Harmonic.{Harmonic}
@@ -28,9 +28,10 @@ t k = getD constants k (pos 0)
 unfoldable pub weightedSum : (h from : ℕ) → (ℕ → ℤ) → ℤ
 weightedSum h from u = sum 12 (λ k. t ((h * k + from) % 12) *ℤ u k)
 
--- c for harmonic h of the numbers u: that sum from t[0], divided by 9,360, to the nearest; s the same from t[9]
+-- c for harmonic h of the numbers u: that sum from t[0], divided by 9,360, to the nearest, a half away from zero (02, card 1); s
+-- the same from t[9]
 unfoldable pub cycle : (h from : ℕ) → (ℕ → ℤ) → ℤ
-cycle h from u = nearest (weightedSum h from u) 9360
+cycle h from u = nearestAway (weightedSum h from u) 9360
 
 abbrev pub square : ℤ → ℕ
 square x = natAbs x * natAbs x

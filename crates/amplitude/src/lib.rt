@@ -40,12 +40,12 @@ fn weighted_sum(u: [i32; 12], h: u8, from: u8) -> i64
     sum
 }
 
-// c² or s²: the sum divided by 9,360, to the nearest, and squared.
+// c² or s²: the sum divided by 9,360, to the nearest, a half away from zero, and squared.
 fn squared(u: [i32; 12], h: u8, from: u8) -> u64
     requires { ⌜ CycleInput u ⌝ }
     ensures { λ r. ⌜ SquareOf h from u r ⌝ }
 {
-    let x = integer::nearest(weighted_sum(u, h, from), 9360);
+    let x = integer::nearest_away(weighted_sum(u, h, from), 9360);
     (x * x) as u64
 }
 

@@ -1,9 +1,9 @@
--- Laws of sums: of differences and multiples, of equal terms, and bounds on the size.
+-- Laws of sums: of differences, negated terms and multiples, of equal terms, and bounds on the size.
 use mathlib.Core.Path.{_≡_, refl}
 use Prim.Native.Nat.{ℕ, zero, suc, _+_, _*_, _<_}
 use native.Mathlib.Numerals.{add-one}
 use native.Mathlib.Omega.{arith}
-use lib.IntN.{ℤ, natAbs, _+ℤ_, _*ℤ_, _-ℤ_}
+use lib.IntN.{ℤ, negℤ, natAbs, _+ℤ_, _*ℤ_, _-ℤ_}
 use Rattle.integer.specs.Within.{_within_}
 use Rattle.integer.specs.Sum.{sum}
 use Rattle.integer.proofs.Reading.{ints}
@@ -22,6 +22,11 @@ pub sum-- : (f g : ℕ → ℤ) (n : ℕ) → sum n (λ k. f k -ℤ g k) ≡ sum
 unfolding sum
 sum-- f g zero = refl
 sum-- f g (suc n) = rw (sum-- f g n) (simp ints (omega arith))
+
+pub sum-neg : (f : ℕ → ℤ) (n : ℕ) → sum n (λ k. negℤ (f k)) ≡ negℤ (sum n f)
+unfolding sum
+sum-neg f zero = refl
+sum-neg f (suc n) = rw (sum-neg f n) (simp ints (omega arith))
 
 pub sum-times : (a : ℤ) (f : ℕ → ℤ) (n : ℕ) → sum n (λ k. a *ℤ f k) ≡ a *ℤ sum n f
 unfolding sum

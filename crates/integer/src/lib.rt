@@ -2,7 +2,7 @@
 // other crates' proofs cite stand in proofs/.
 
 ghost use mathlib.Core.Path.{_≡_};
-ghost use Rattle.integer.specs.Nearest.{Divides, nearest as nearestOf};
+ghost use Rattle.integer.specs.Nearest.{Divides, nearest as nearestOf, nearestAway};
 ghost use Rattle.integer.specs.Root.{FindsRoot};
 
 // a / b to the nearest whole number; a half goes up. The machine rounds a quotient toward zero:
@@ -16,6 +16,17 @@ pub fn nearest(a: i64, b: u64) -> i64
     let m = 2 * d;
     let q = t / m;
     if t % m < 0 { q - 1 } else { q }
+}
+
+// a / b to the nearest whole number; a half goes away from zero. The machine rounds a quotient
+// toward zero: half a divisor more, on the side of a, makes that the nearest.
+pub fn nearest_away(a: i64, b: u64) -> i64
+    requires { ⌜ Divides a b ⌝ }
+    ensures { λ r. ⌜ r ≡ nearestAway a b ⌝ }
+{
+    let d = b as i64;
+    let half = if a < 0 { 0 - d } else { d };
+    (2 * a + half) / (2 * d)
 }
 
 // The largest r whose square is at most x, a binary digit a turn from the top: half as many turns

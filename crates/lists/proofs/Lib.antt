@@ -2,5 +2,6 @@
 pub mod TestLaws
 pub mod Places
 pub mod Fill
+pub mod Maps
 pub mod Loops
 pub mod Runs

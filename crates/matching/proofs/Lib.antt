@@ -1,7 +1,8 @@
--- From linear forms of the samples to the bounds of Total.antt, which other crates cite.
+-- From linear forms of the samples to the bounds of Total.antt and the negated numbers of Negated.antt, which other crates cite.
 mod Bits
 mod Forms
 mod Rows
 mod Parts
 mod OneEnd
 pub mod Total
+pub mod Negated

@@ -1,5 +1,5 @@
 -- One end of a bank: where each sample is within 1/2 of its ideal, 1000·v is within 13,000 of w; and any v is within 761,874.
--- The chain of three roundings (v of K·m, K of k, m of the ideal) uses only the half-unit law of `nearest` and the rows of Rows.antt.
+-- The chain of three roundings (v of K·m, K of k, m of the ideal) uses only the half-unit laws and the rows of Rows.antt.
 use mathlib.Core.Path.{_≡_, refl, sym, _∙_}
 use mathlib.Core.Bool.{Bool, true, false}
 use Prim.Native.Nat.{ℕ, _*_, _≤_, _<_}
@@ -10,7 +10,7 @@ use Rattle.integer.specs.Within.{_within_}
 use Rattle.integer.specs.Nearest.{Near}
 use Rattle.integer.proofs.Reading.{ints, linear, _⇒_}
 use Rattle.integer.proofs.Laws.{ring, literals, within-≤, within-+, within-*, within-is, times-within, cancel-times}
-use Rattle.integer.proofs.HalfUnit.{nearest-near}
+use Rattle.integer.proofs.HalfUnit.{nearestAway-near}
 use Rattle.matching.specs.Matching.{Three, three, even, sum3, operated, matched}
 use Rattle.matching.specs.Sets.{turned}
 use Rattle.matching.specs.Bank.{NearIdeal}
@@ -109,7 +109,7 @@ module _ {K : ℤ} {g : ℕ} {x : Three} (s : MatchedInput K g x) (f : Bool) whe
   m = parts (operated (even g) f g x)
 
   v-near : errV K m (matched K g f x) within (65536 * 4053)
-  v-near = rw (matched-in-parts K g f x) (nearest-near (K *ℤ m) (65536 * 4053) (lit≤ tt))
+  v-near = rw (matched-in-parts K g f x) (nearestAway-near (K *ℤ m) (65536 * 4053) (lit≤ tt))
 
   pub one-size : matched K g f x within 761874
   one-size = sized K m (matched K g f x) (s .factor) (parts-within (s .sampled) f) v-near

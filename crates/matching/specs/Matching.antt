@@ -5,7 +5,7 @@ use Prim.Native.Nat.{ℕ, _*_, _%_}
 use lib.Dec.{eqb}
 use lib.IntN.{ℤ, pos, negℤ, _+ℤ_, _-ℤ_, _*ℤ_}
 use lib.ListN.{getD}
-use Rattle.integer.specs.Nearest.{nearest}
+use Rattle.integer.specs.Nearest.{nearestAway}
 
 -- Three numbers as a system sees them: p of its own phase, n of the next (A to B to C to A), q of the one before.
 pub record Three : Type 0 where
@@ -48,6 +48,6 @@ operated true true g x = record { top = operation g (lessZero x (x .p)) (lessZer
 operated false true g x = record { top = pos 780 *ℤ operation g (x .p) (x .n) (x .q); under = 1351 }
 operated false false g x = record { top = pos 3 *ℤ (pos 780 *ℤ operation g (x .p) (x .n) (x .q)) +ℤ pos 1351 *ℤ sum3 x; under = 3 * 1351 }
 
--- The matched number v: K/65,536 times that, to the nearest, rounded once.
+-- The matched number v: K/65,536 times that, to the nearest, rounded once, a half away from zero (02, card 1).
 unfoldable pub matched : (K : ℤ) (g : ℕ) (filter : Bool) → Three → ℤ
-matched K g filter x = nearest (K *ℤ operated (even g) filter g x .top) (65536 * operated (even g) filter g x .under)
+matched K g filter x = nearestAway (K *ℤ operated (even g) filter g x .top) (65536 * operated (even g) filter g x .under)

@@ -5,7 +5,7 @@ use mathlib.Core.Bool.{Bool, true, false}
 use mathlib.Core.List.{List, [], _∷_, map}
 use Prim.Native.Nat.{ℕ}
 use lib.IntN.{ℤ, pos, negℤ}
-use Rattle.integer.specs.Nearest.{floor, nearest}
+use Rattle.integer.specs.Nearest.{floor, nearest, nearestAway}
 use Rattle.matching.specs.Matching.{Three, three, operation, operated, matched}
 use Rattle.matching.specs.Sets.{sysA, sysB, sysC, seen}
 
@@ -65,5 +65,5 @@ groups =
     ∷ []
 
 groups-met : map (λ r. r .0) groups ≡ map (λ r. r .1) groups
-unfolding groups trio seen matched operated operation nearest floor
+unfolding groups trio seen matched operated operation nearestAway nearest floor
 groups-met = refl

@@ -60,12 +60,13 @@ fn operated(g: u8, filter: bool, p: i64, n: i64, q: i64) -> i64
     u + 1351 * s
 }
 
-// The matched number of a system: K/65,536 times that, to the nearest, rounded once.
+// The matched number of a system: K/65,536 times that, to the nearest, rounded once, a half away
+// from zero.
 fn matched(k: i64, g: u8, filter: bool, p: i64, n: i64, q: i64) -> i32
     requires { ⌜ MatchedInput k g (three p n q) ⌝ }
     ensures { λ r. ⌜ r ≡ matchedOf k g filter (three p n q) ⌝ }
 {
-    integer::nearest(k * operated(g, filter, p, n, q), 65536 * 4053) as i32
+    integer::nearest_away(k * operated(g, filter, p, n, q), 65536 * 4053) as i32
 }
 
 // The three matched numbers of an end.

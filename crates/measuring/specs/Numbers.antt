@@ -1,12 +1,12 @@
--- The numbers to meet (document 01, "Numbers to meet", all that are marked (T)): one table of what the definitions give and what is asked, and one
--- lemma over it.
+-- The numbers to meet (document 01, "Numbers to meet", all that are marked (T), and 02, card 1: sample −1 at K 32,768 gives −1): one table of what the
+-- definitions give and what is asked, and one lemma over it.
 use mathlib.Core.Path.{_≡_, refl}
 use mathlib.Core.Bool.{Bool, true, false, cond}
 use mathlib.Core.List.{List, [], _∷_, _++_, map}
 use Prim.Native.Nat.{ℕ, _/_, _%_}
 use lib.Dec.{ltb, eqb}
 use lib.IntN.{ℤ, pos, negsuc, negℤ}
-use Rattle.integer.specs.Nearest.{nearest, floor}
+use Rattle.integer.specs.Nearest.{nearestAway, nearest, floor}
 use Rattle.integer.specs.Root.{rootBy}
 use Rattle.integer.specs.Sum.{sum}
 use Rattle.lists.specs.Lists.{upTo}
@@ -57,7 +57,7 @@ trio K g f x a b c =
 matchings : List Worked
 matchings =
     trio 32768 0 false (three (pos 1) (pos 0) (pos 0)) (pos 1) (pos 0) (pos 0)
-    ++ trio 32768 0 false (three (neg 1) (pos 0) (pos 0)) (pos 0) (pos 0) (pos 0)
+    ++ trio 32768 0 false (three (neg 1) (pos 0) (pos 0)) (neg 1) (pos 0) (pos 0)
     ++ trio 65536 5 false (three (pos 1000) (pos 0) (neg 1000)) (neg 1155) (pos 577) (pos 577)
     ++ trio 65536 5 true (three (pos 1000) (pos 0) (neg 1000)) (neg 1155) (pos 577) (pos 577)
     ++ trio 65536 0 true (three (pos 300) (pos 0) (pos 0)) (pos 200) (neg 100) (neg 100)
@@ -100,5 +100,5 @@ table = settings ++ (matchings ++ measurings)
 
 pub table-met : map (λ r. r .0) table ≡ map (λ r. r .1) table
 unfolding table settings matchings measurings square flat window plain starting factor factorHigh factorsLow valueRows seen
-    matched operated operation starts amplitude cycle weightedSum t sum nearest floor rootBy upTo
+    matched operated operation starts amplitude cycle weightedSum t sum nearestAway nearest floor rootBy upTo
 table-met = refl

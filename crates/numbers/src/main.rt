@@ -1,8 +1,10 @@
-// Runs `nearest` and `root` on numbers from standard input and prints the results, a line each. A record is 17 bytes: what to do ('n' nearest of
-// a/b, 'm' nearest of −a/b, 'r' root of a), then a and b, eight bytes each, little-endian. second/numbers.c makes the input and the expected output.
+// Runs the roundings and `root` on numbers from standard input and prints the results, a line each. A record is 17 bytes: what to do ('n' nearest of
+// a/b with a half up, 'm' the same of −a/b, 'a' and 'b' with a half away from zero, 'r' root of a), then a and b, eight bytes each, little-endian.
+// second/numbers.c makes the input and the expected output.
 
 ghost use Prim.Native.Nat.{_+_, _<_};
 ghost use lib.ListN.{length};
+ghost use Rattle.integer.specs.Nearest.{Divides};
 use libc::STDOUT_FILENO;
 
 fn wide(x: u32) -> u64
@@ -19,7 +21,17 @@ fn u64_at(s: &[u8], at: usize) -> u64
     low + 4294967296 * high
 }
 
-fn print_nearest(minus: bool, a: u64, b: u64) {
+fn rounded(away: bool, a: i64, b: u64) -> i64
+    requires { ⌜ Divides a b ⌝ }
+{
+    if away {
+        integer::nearest_away(a, b)
+    } else {
+        integer::nearest(a, b)
+    }
+}
+
+fn print_quotient(minus: bool, away: bool, a: u64, b: u64) {
     if 1152921504606846976 < a {
         return;
     }
@@ -31,10 +43,10 @@ fn print_nearest(minus: bool, a: u64, b: u64) {
     }
     let n = a as i64;
     if minus {
-        text::print_number(integer::nearest(0 - n, b));
+        text::print_number(rounded(away, 0 - n, b));
         return;
     }
-    text::print_number(integer::nearest(n, b));
+    text::print_number(rounded(away, n, b));
 }
 
 fn next() -> bool {
@@ -49,7 +61,12 @@ fn next() -> bool {
     if kind == b'r' {
         io::print_decimal(STDOUT_FILENO, integer::root(a));
     } else {
-        print_nearest(kind == b'm', a, b);
+        print_quotient(
+            kind == b'm' || kind == b'b',
+            kind == b'a' || kind == b'b',
+            a,
+            b,
+        );
     }
     io::write_all(STDOUT_FILENO, b"\n");
     true

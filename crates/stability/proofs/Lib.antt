@@ -4,3 +4,4 @@ mod Demand2
 mod TripLaws
 mod Demand3
 mod Through
+mod Turned

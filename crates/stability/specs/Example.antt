@@ -7,7 +7,7 @@ use lib.IntN.{pos}
 use lib.ListN.{replicate}
 use Rattle.setting.specs.Values.{startable, factor, factorHigh, factorsLow, valueRows}
 use Rattle.setting.specs.Worked.{plain}
-use Rattle.integer.specs.Nearest.{nearest, floor}
+use Rattle.integer.specs.Nearest.{nearestAway, nearest, floor}
 use Rattle.integer.specs.Root.{rootBy}
 use Rattle.integer.specs.Sum.{sum}
 use Rattle.lists.specs.Lists.{upTo}
@@ -32,7 +32,7 @@ unfoldable pub latchAfter : System → Bool
 latchAfter l = elementOf (run (fresh plain) fault .trip) l .latch
 
 pub fault-trips : startable plain ∷ latchAfter sysA ∷ latchAfter sysB ∷ latchAfter sysC ∷ [] ≡ true ∷ true ∷ false ∷ false ∷ []
-unfolding plain fault latchAfter factor factorHigh factorsLow valueRows nearest floor rootBy sum upTo operation operated matched seen matchedAt numbers
+unfolding plain fault latchAfter factor factorHigh factorsLow valueRows nearestAway nearest floor rootBy sum upTo operation operated matched seen matchedAt numbers
     t weightedSum cycle amplitude twiceRestraint harmonics blocked starts hasHarmonics elementAfter fresh admissible windowWith setRows sampleRows relayNow eqZ
 fault-trips = refl
 

@@ -3,3 +3,4 @@ pub mod Trips
 pub mod Stability
 pub mod Example
 pub mod ThroughFault
+pub mod Turning

@@ -5,6 +5,7 @@ ghost use Rattle.stability.specs.Trips.{Latched, Counted};
 ghost use Rattle.stability.specs.Stability.{Stability};
 ghost use Rattle.stability.specs.Example.{FaultUnhealthy};
 ghost use Rattle.stability.specs.ThroughFault.{ThroughFault};
+ghost use Rattle.stability.specs.Turning.{Turning};
 
 // Demand 2 over the list: the setting is kept, the window is that of the last twelve accepted sets, a set is answered as the definitions give for it,
 // and a reset is accepted.
@@ -26,4 +27,9 @@ pub fn stability()
 // trips a relay, which are then not those of a healthy bank.
 pub fn examples()
     ensures { λ _. ⌜ ThroughFault × FaultUnhealthy ⌝ }
+{}
+
+// Turned current transformers, over the list: negating every sample negates matched numbers, c and s, and leaves answers, counters and latches.
+pub fn turning()
+    ensures { λ _. ⌜ Turning ⌝ }
 {}

@@ -1,4 +1,4 @@
--- `amplitude::squared` meets its contract: the sum fits what `nearest` takes, and the square of the quotient fits.
+-- `amplitude::squared` meets its contract: the sum fits what `nearest_away` takes, and the square of the quotient fits.
 use borrow.Author.Needs.{needs}
 use mathlib.Core.Path.{_≡_, ap, _∙_}
 use Prim.Native.Nat.{_*_, _≤_}
@@ -20,14 +20,14 @@ sum-is : (c : tie.After-weighted-sum) → let a = c .before .args in
     toZ w64 (ofZ w64 (c .weighted-sum .result)) ≡ weightedSum (a .h) (a .from) (inOrder (a .u))
 sum-is c = back-ok w64 (c .weighted-sum .result) (c .weighted-sum .ok) ∙ c .weighted-sum .ensures
 
-x-is : (c : tie.After-nearest) → let a = c .before .before .args in
-    toZ w64 (ofZ w64 (c .nearest .result)) ≡ cycle (a .h) (a .from) (inOrder (a .u))
+x-is : (c : tie.After-nearest-away) → let a = c .before .before .args in
+    toZ w64 (ofZ w64 (c .nearest-away .result)) ≡ cycle (a .h) (a .from) (inOrder (a .u))
 unfolding cycle
-x-is c = back-ok w64 (c .nearest .result) (c .nearest .ok) ∙ c .nearest .ensures ∙ rw (sum-is (c .before))
+x-is c = back-ok w64 (c .nearest-away .result) (c .nearest-away .ok) ∙ c .nearest-away .ensures ∙ rw (sum-is (c .before))
 
-nearest-requires : tie.Need-nearest-requires
+nearest-away-requires : tie.Need-nearest-away-requires
 unfolding weightedSum
-nearest-requires c κs =
+nearest-away-requires c κs =
     let a = c .before .args in
     rw (sum-is c)
     (record {
@@ -36,7 +36,7 @@ nearest-requires c κs =
       few = omega arith;
     })
 
-small : (c : tie.After-nearest) → square (toZ w64 (ofZ w64 (c .nearest .result))) ≤ 6400000 * 6400000
+small : (c : tie.After-nearest-away) → square (toZ w64 (ofZ w64 (c .nearest-away .result))) ≤ 6400000 * 6400000
 small c = square-≤ (within-is (x-is c) (cycle-small _ _ (c .before .before .pre)))
 
 mul-result : tie.Need-mul-result
@@ -49,4 +49,4 @@ returns : tie.Need-returns
 returns c = rw (back (mul-result c), square-is) (record { is = ap square (x-is c); small = small c })
 
 pub squared-spec : {M : Type 1} → statement M
-squared-spec = tie.close (tie.spec weighted-sum-requires nearest-requires mul-result cast-result returns)
+squared-spec = tie.close (tie.spec weighted-sum-requires nearest-away-requires mul-result cast-result returns)

@@ -35,21 +35,21 @@ top c =
     })
     refl
 
-mul-nearest : tie.Need-mul-nearest
-mul-nearest c = fits (top c)
+mul-nearest-away : tie.Need-mul-nearest-away
+mul-nearest-away c = fits (top c)
 
-mul-nearest-2 : tie.Need-mul-nearest-2
-mul-nearest-2 c = search needs
+mul-nearest-away-2 : tie.Need-mul-nearest-away-2
+mul-nearest-away-2 c = search needs
 
-nearest-requires : tie.Need-nearest-requires
-nearest-requires c κs = record { top = within-is (read (top c)) (within-≤ (top c .size) (lit≤ tt)); some = lit≤ tt; few = lit≤ tt }
+nearest-away-requires : tie.Need-nearest-away-requires
+nearest-away-requires c κs = record { top = within-is (read (top c)) (within-≤ (top c .size) (lit≤ tt)); some = lit≤ tt; few = lit≤ tt }
 
 -- v, which fits in 32 bits
-v-is : (c : tie.After-nearest) →
-    let a = c .before .before .args in kept (c .nearest .result) ≡ matched (a .k) (a .g) (a .filter) (three (a .p) (a .n) (a .q))
+v-is : (c : tie.After-nearest-away) →
+    let a = c .before .before .args in kept (c .nearest-away .result) ≡ matched (a .k) (a .g) (a .filter) (three (a .p) (a .n) (a .q))
 v-is c =
     let a = c .before .before .args in
-    rw (back-ok w64 (c .nearest .result) (c .nearest .ok), c .nearest .ensures, read (top (c .before)))
+    rw (back-ok w64 (c .nearest-away .result) (c .nearest-away .ok), c .nearest-away .ensures, read (top (c .before)))
     (sym (matched-in-parts (a .k) (a .g) (a .filter) (three (a .p) (a .n) (a .q))))
 
 cast-result : tie.Need-cast-result
@@ -59,4 +59,4 @@ returns : tie.Need-returns
 returns c = back (cast-result c) ∙ v-is c
 
 pub matched-spec : {M : Type 1} → statement M
-matched-spec = tie.close (tie.spec operated-requires mul-nearest mul-nearest-2 nearest-requires cast-result returns)
+matched-spec = tie.close (tie.spec operated-requires mul-nearest-away mul-nearest-away-2 nearest-away-requires cast-result returns)
