@@ -52,7 +52,7 @@ $(BENCH): $(SOURCES)
 $(CALLS): $(SOURCES)
 	rt check calls
 
-# The second program meets document 01's numbers.
+# The second program meets the numbers of documents 01 and 02, and turned lists of calls give the same answers.
 second: build/selftest
 	build/selftest
 
@@ -70,7 +70,8 @@ stored: build/numbers build/vectors build/bench
 # What is run on the proved code.
 proved: host bench calls
 
-# The C calls: the example; 100,000 setting blocks and 10,000 measuring calls against the second program; and blocks at the edge of what may be read.
+# The C calls: the example; 100,000 setting blocks and 10,000 measuring calls against the second program, the calls with negated samples too; and blocks
+# at the edge of what may be read.
 host: build/host build/blocks build/fuzz build/edges
 	build/host | cmp - examples/host.out
 	build/blocks
@@ -94,7 +95,7 @@ bench: $(BENCH) build/bench
 		{ echo "bench: case $$c"; exit 1; }; done
 
 # Records of sample and reset calls against the second program: each answer, with counters, latches and refusals; in some, parts of the record are
-# changed between calls, within their rules and past them, so that refusal 12 is met.
+# changed between calls, within their rules and past them, so that refusal 12 is met; some come once more with every sample negated.
 calls: $(CALLS) build/calls
 	build/calls expect > build/calls.out
 	build/calls input | $(CALLS) | cmp - build/calls.out

@@ -23,6 +23,7 @@ use Rattle.matching.proofs.Forms.{_·_, linear-parts}
 use Rattle.matching.proofs.Rows.{matching}
 use Rattle.matching.proofs.Parts.{matched-in-parts}
 
+-- three numbers negated
 abbrev opposite : Three → Three
 opposite x = three (negℤ (x .p)) (negℤ (x .n)) (negℤ (x .q))
 
@@ -35,7 +36,7 @@ module _ (g : ℕ) (h : g < 12) (f : Bool) (x : Three) where
   parts-opposite =
       let l = linear-parts (even g) f g h in l .is (opposite x) ∙ form-opposite (matching g f) x ∙ ap negℤ (sym (l .is x))
 
-  pub matched-opposite : (K : ℤ) → matched K g f (opposite x) ≡ negℤ (matched K g f x)
+  matched-opposite : (K : ℤ) → matched K g f (opposite x) ≡ negℤ (matched K g f x)
   matched-opposite K =
       let m = parts (operated (even g) f g x) in
       rw (matched-in-parts K g f (opposite x), matched-in-parts K g f x, parts-opposite, *ℤ-negℤ K m) (nearestAway-neg (K *ℤ m) (65536 * 4053) (omega arith))

@@ -1,5 +1,5 @@
 -- A window negated (02, card 1): the numbers that amplitudes are taken of are negated, and what is measured is the same.
-use mathlib.Core.Path.{_≡_, refl, ap, _∙_}
+use mathlib.Core.Path.{_≡_, refl, _∙_}
 use mathlib.Core.List.{List, map}
 use Prim.Native.Nat.{ℕ, zero, suc, _+_, _*_}
 use native.Mathlib.Omega.{arith}
@@ -12,7 +12,7 @@ use Rattle.matching.specs.Sets.{System, sysA, sysB, sysC, index}
 use Rattle.amplitude.specs.Amplitude.{amplitude}
 use Rattle.amplitude.proofs.Negated.{amplitude-negated}
 use Rattle.measuring.specs.Window.{at, series, sums, difference}
-use Rattle.measuring.specs.Measuring.{differential, second, fifth, sumℕ, twiceRestraint, start, harmonics, blocked, readingOf}
+use Rattle.measuring.specs.Measuring.{sumℕ, twiceRestraint, harmonics, blocked, readingOf}
 
 module _ (win : List ℤ) where
   pub series-negated : (z : ℕ) (l : System) (k : ℕ) → series (map negℤ win) z l k ≡ negℤ (series win z l k)

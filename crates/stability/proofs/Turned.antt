@@ -6,9 +6,9 @@ use mathlib.Core.Bool.{Bool, true, false, _&&_, cond}
 use mathlib.Core.List.{List, [], _∷_, _++_, map, map-append}
 use Prim.Native.Nat.{ℕ, zero, suc, _+_, _*_}
 use native.Mathlib.Omega.{arith}
-use lib.Dec.{T, leb, ltb}
+use lib.Dec.{leb, ltb}
 use lib.IntN.{ℤ, pos, negsuc, negℤ, natAbs}
-use lib.ListN.{length, take, drop, length-map}
+use lib.ListN.{take, drop, length-map}
 use Rattle.integer.specs.Within.{eqZ}
 use Rattle.integer.proofs.Reading.{ints, _⇒_}
 use Rattle.integer.proofs.Laws.{natAbs-neg, eqZ→≡}
@@ -17,7 +17,6 @@ use Rattle.lists.proofs.TestLaws.{is-false}
 use Rattle.lists.proofs.Maps.{map-take, map-drop}
 use Rattle.refusal.specs.Refusals.{Outcome, gives, declines, byOutcome, noneApplies}
 use Rattle.setting.specs.declared.Setting.{Setting}
-use Rattle.setting.specs.Values.{startable}
 use Rattle.matching.specs.Sets.{System, sysA, sysB, sysC, numbers}
 use Rattle.matching.proofs.Negated.{numbers-negated}
 use Rattle.amplitude.specs.Amplitude.{order}
