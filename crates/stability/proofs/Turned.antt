@@ -101,6 +101,11 @@ module _ (r : Relay) (w : Window) where
 
 -- ---- one call
 
+-- the record that a call leaves, by its outcome
+left-turned : {A : Type 0} (o : Outcome A) (r s : Relay) → byOutcome o (λ n. turnedRelay r) (λ a. turnedRelay s) ≡ turnedRelay (byOutcome o (λ n. r) (λ a. s))
+left-turned (gives a) r s = refl
+left-turned (declines n) r s = refl
+
 module _ (r : Relay) (adm : admissible r ≡ true) (xs : List ℤ) where
   window-turned : windowAfter (turnedRelay r) (negated xs) ≡ turnedWindow (windowAfter r xs)
   window-turned = rw (numbers-negated (r .setting) (admitted r adm 0) xs) (filed-turned (r .window) (numbers (r .setting) xs))
@@ -110,12 +115,8 @@ module _ (r : Relay) (adm : admissible r ≡ true) (xs : List ℤ) where
   sample-same = rw (turned-admissible r, rows-same (r .setting) xs, window-turned, reply-same r (windowAfter r xs))
 
   sample-turned : sampleRelay (turnedRelay r) (negated xs) ≡ turnedRelay (sampleRelay r xs)
-  sample-turned = rw (sample-same, window-turned, now-turned r (windowAfter r xs)) (by (sampleReply r xs))
-    where
-      by : (o : Outcome Reply) → byOutcome o (λ n. turnedRelay r) (λ a. turnedRelay (relayNow r (windowAfter r xs)))
-          ≡ turnedRelay (byOutcome o (λ n. r) (λ a. relayNow r (windowAfter r xs)))
-      by (gives a) = refl
-      by (declines n) = refl
+  sample-turned =
+      let w = windowAfter r xs in rw (sample-same, window-turned, now-turned r w) (left-turned (sampleReply r xs) r (relayNow r w))
 
 module _ (r : Relay) where
   reset-same : resetReply (turnedRelay r) ≡ resetReply r
@@ -124,11 +125,7 @@ module _ (r : Relay) where
 
   reset-turned : resetRelay (turnedRelay r) ≡ turnedRelay (resetRelay r)
   unfolding cleared
-  reset-turned = rw reset-same (by (resetReply r))
-    where
-      by : (o : Outcome (Unit {0})) → byOutcome o (λ n. turnedRelay r) (λ a. cleared (turnedRelay r)) ≡ turnedRelay (byOutcome o (λ n. r) (λ a. cleared r))
-      by (gives a) = refl
-      by (declines n) = refl
+  reset-turned = rw reset-same (left-turned (resetReply r) r (cleared r))
 
 turned-after : {v : Setting} {r : Relay} → Valid v r → (c : Call) → after (turnedRelay r) (turnedCall c) ≡ turnedRelay (after r c)
 turned-after {r = r} h (sample xs) = sample-turned r (h .ok) xs
