@@ -12,7 +12,7 @@ use Rattle.integer.proofs.Reading.{ints, linear, _⇒_}
 use Rattle.integer.proofs.Laws.{ring, literals, within-≤, within-+, within-*, within-is, times-within, cancel-times}
 use Rattle.integer.proofs.HalfUnit.{nearestAway-near}
 use Rattle.matching.specs.Matching.{Three, three, even, sum3, operated, matched}
-use Rattle.matching.specs.Sets.{turned}
+use Rattle.matching.specs.Sets.{fromNext}
 use Rattle.matching.specs.Bank.{NearIdeal}
 use Rattle.matching.specs.MatchingInput.{MatchedInput, parts}
 use Rattle.matching.proofs.Forms.{_·_, own, next, Linear, linear-p, linear-n, linear-q, linear-form, linear-parts, linear-ideal, ideal-under}
@@ -100,8 +100,8 @@ reduced β N B m S W y h k = rw (h, k) (simp ints (omega arith))
 -- ---- the bounds
 
 -- an end, as the next system sees it
-pub turned-scaled : {K : ℤ} {g : ℕ} {x : Three} → MatchedInput K g x → MatchedInput K g (turned x)
-turned-scaled s = let h = s .sampled in record { factor = s .factor; sampled = record { group = h .group; own = h .next; next = h .before; before = h .own } }
+pub fromNext-scaled : {K : ℤ} {g : ℕ} {x : Three} → MatchedInput K g x → MatchedInput K g (fromNext x)
+fromNext-scaled s = let h = s .sampled in record { factor = s .factor; sampled = record { group = h .group; own = h .next; next = h .before; before = h .own } }
 
 module _ {K : ℤ} {g : ℕ} {x : Three} (s : MatchedInput K g x) (f : Bool) where
   -- what K/65,536 multiplies
@@ -122,7 +122,7 @@ module _ {K : ℤ} {g : ℕ} {x : Three} (s : MatchedInput K g x) (f : Bool) whe
     near-form u y h = (rw (linear-ideal (even g) f g .is u, ideal-under (even g) f g u own) at h) ⇒ simp ints (omega arith)
 
     pub one-end : 0 < B → Near K (pos (65536 * N)) B → sum3 w ≡ pos 0 → (f ≡ false → c ≡ pos 0) →
-        NearIdeal g f N B w c (x .p) → NearIdeal g f N B (turned w) c (x .n) → NearIdeal g f N B (turned (turned w)) c (x .q) →
+        NearIdeal g f N B w c (x .p) → NearIdeal g f N B (fromNext w) c (x .n) → NearIdeal g f N B (fromNext (fromNext w)) c (x .q) →
         (pos 1000 *ℤ matched K g f x -ℤ w .p) within 13000
     one-end hB eK hw hc p n q =
         let l = s .sampled .group in
@@ -137,5 +137,5 @@ module _ {K : ℤ} {g : ℕ} {x : Three} (s : MatchedInput K g x) (f : Bool) whe
         chained N B K m (matched K g f x) (w .p) hB (s .factor) (parts-within (s .sampled) f) v-near eK
         (cancel-times (r .least)
         (within-≤
-        (within-is (sym eM) (small-form f l (near-form w (x .p) p) (near-form (turned w) (x .n) n) (near-form (turned (turned w)) (x .q) q)))
+        (within-is (sym eM) (small-form f l (near-form w (x .p) p) (near-form (fromNext w) (x .n) n) (near-form (fromNext (fromNext w)) (x .q) q)))
         (omega arith)))

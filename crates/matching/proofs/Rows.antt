@@ -11,7 +11,7 @@ use Rattle.lists.specs.Tests.{hold, every}
 use Rattle.integer.proofs.Laws.{within-≤, within-is, eqZ→≡}
 use Rattle.lists.proofs.TestLaws.{hold-at, every-at, when}
 use Rattle.matching.specs.Matching.{Three, three, operation, even, sum3, operated}
-use Rattle.matching.specs.Sets.{turned}
+use Rattle.matching.specs.Sets.{fromNext}
 use Rattle.matching.specs.Bank.{ideal}
 use Rattle.matching.specs.MatchingInput.{OperationInput, parts}
 use Rattle.matching.proofs.Forms.{_·_, own, next, before, formOf, linear-group, size, form-within}
@@ -31,7 +31,7 @@ currentsUnder g f = ideal (even g) f g own .under
 
 -- what the form t gives of w at each of the three phases
 abbrev pub spread : Three → Three → Three
-spread t w = three (t · w) (t · turned w) (t · turned (turned w))
+spread t w = three (t · w) (t · fromNext w) (t · fromNext (fromNext w))
 
 -- what the matching makes of the ideal currents of w
 abbrev pub chain : ℕ → Bool → Three → ℤ

@@ -15,14 +15,14 @@ use Rattle.setting.specs.declared.Setting.{Setting}
 use Rattle.setting.specs.Values.{endOf, factorTop, factorUnder, factor, startable}
 use Rattle.setting.proofs.LimitLaws.{startable-is}
 use Rattle.matching.specs.Matching.{Three, sum3}
-use Rattle.matching.specs.Sets.{System, sysA, sysB, sysC, turned, seen, phases, filtered, matchedAt}
+use Rattle.matching.specs.Sets.{System, sysA, sysB, sysC, fromNext, seen, phases, filtered, matchedAt}
 use Rattle.matching.specs.Bank.{NearIdeal, Healthy, InReach, total, TotalBound, MatchedBound}
 use Rattle.matching.specs.MatchingInput.{MatchedInput}
 use Rattle.matching.proofs.OneEnd.{one-size, one-end}
 
 -- what holds of each phase, as the phase sees the three, holds of the three that a system sees
 module _ (R : Three → Three → Type 0) (x w : Three) (h : (l : System) → R (seen l x) (seen l w)) where
-  around : (l : System) → R (seen l x) (seen l w) × R (turned (seen l x)) (turned (seen l w)) × R (turned (turned (seen l x))) (turned (turned (seen l w)))
+  around : (l : System) → R (seen l x) (seen l w) × R (fromNext (seen l x)) (fromNext (seen l w)) × R (fromNext (fromNext (seen l x))) (fromNext (fromNext (seen l w)))
   unfolding seen
   around sysA = (h sysA, h sysB, h sysC)
   around sysB = (h sysB, h sysC, h sysA)

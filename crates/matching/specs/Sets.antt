@@ -28,14 +28,15 @@ system zero = sysA
 system (suc zero) = sysB
 system (suc (suc k)) = sysC
 
--- Three numbers of A, B, C, as a system sees them: its own, the next, the one before.
-abbrev pub turned : Three → Three
-turned x = record { p = x .n; n = x .q; q = x .p }
+-- three numbers as the next phase sees them
+abbrev pub fromNext : Three → Three
+fromNext x = record { p = x .n; n = x .q; q = x .p }
 
+-- Three numbers of A, B, C, as a system sees them: its own, the next, the one before.
 unfoldable pub seen : System → Three → Three
 seen sysA x = x
-seen sysB x = turned x
-seen sysC x = turned (turned x)
+seen sysB x = fromNext x
+seen sysC x = fromNext (fromNext x)
 
 -- the samples A, B, C of end z in a set of 12: ends 0 to 3, each A, B, C
 abbrev pub phases : List ℤ → ℕ → Three

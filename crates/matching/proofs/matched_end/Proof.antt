@@ -6,7 +6,7 @@ use mir.Val.{SFits, toZ, ofZ}
 use mir.Facts.{sfits-widen}
 use Rattle.integer.proofs.Machine.{back, back-ok}
 use Rattle.matching.specs.Sets.{seen, trioOf}
-use Rattle.matching.proofs.OneEnd.{turned-scaled}
+use Rattle.matching.proofs.OneEnd.{fromNext-scaled}
 use Rattle.matching.proofs.matched_end.Statement.{statement}
 use Rattle.matching.proofs.matched_end.Tie as tie
 
@@ -33,13 +33,13 @@ matched-requires-2 : tie.Need-matched-requires-2
 matched-requires-2 c κs =
     let b = c .before .before in
     let f = b .fits in
-    rw (back (f .k), read (f .a), read (f .b), read (f .c)) (turned-scaled (b .pre))
+    rw (back (f .k), read (f .a), read (f .b), read (f .c)) (fromNext-scaled (b .pre))
 
 matched-requires-3 : tie.Need-matched-requires-3
 matched-requires-3 c κs =
     let b = c .before .before .before in
     let f = b .fits in
-    rw (back (f .k), read (f .a), read (f .b), read (f .c)) (turned-scaled (turned-scaled (b .pre)))
+    rw (back (f .k), read (f .a), read (f .b), read (f .c)) (fromNext-scaled (fromNext-scaled (b .pre)))
 
 returns : tie.Need-returns
 unfolding trioOf seen
