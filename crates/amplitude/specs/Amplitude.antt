@@ -28,8 +28,7 @@ t k = getD constants k (pos 0)
 unfoldable pub weightedSum : (h from : ℕ) → (ℕ → ℤ) → ℤ
 weightedSum h from u = sum 12 (λ k. t ((h * k + from) % 12) *ℤ u k)
 
--- c for harmonic h of the numbers u: that sum from t[0], divided by 9,360, to the nearest, a half away from zero (02, card 1); s
--- the same from t[9]
+-- c for harmonic h of the numbers u: that sum from t[0], divided by 9,360, to the nearest, a half away from zero (02, card 1); s the same from t[9]
 unfoldable pub cycle : (h from : ℕ) → (ℕ → ℤ) → ℤ
 cycle h from u = nearestAway (weightedSum h from u) 9360
 

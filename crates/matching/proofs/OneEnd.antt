@@ -1,23 +1,21 @@
 -- One end of a bank: where each sample is within 1/2 of its ideal, 1000·v is within 13,000 of w; and any v is within 761,874.
--- The chain of three roundings (v of K·m, K of k, m of the ideal) uses only the half-unit laws and the rows of Rows.antt.
+-- The chain of three roundings (v of K·m, K of k, m of the ideal) uses only the half-unit law and the rows of Rows.antt.
 use mathlib.Core.Path.{_≡_, refl, sym, _∙_}
 use mathlib.Core.Bool.{Bool, true, false}
 use Prim.Native.Nat.{ℕ, _*_, _≤_, _<_}
 use native.Mathlib.Omega.{arith}
-use lib.Dec.{lit≤}
 use lib.IntN.{ℤ, pos, _+ℤ_, _*ℤ_, _-ℤ_}
 use Rattle.integer.specs.Within.{_within_}
 use Rattle.integer.specs.Nearest.{Near}
 use Rattle.integer.proofs.Reading.{ints, linear, _⇒_}
 use Rattle.integer.proofs.Laws.{ring, literals, within-≤, within-+, within-*, within-is, times-within, cancel-times}
-use Rattle.integer.proofs.HalfUnit.{nearestAway-near}
 use Rattle.matching.specs.Matching.{Three, three, even, sum3, operated, matched}
 use Rattle.matching.specs.Sets.{fromNext}
 use Rattle.matching.specs.Bank.{NearIdeal}
 use Rattle.matching.specs.MatchingInput.{MatchedInput, parts}
 use Rattle.matching.proofs.Forms.{_·_, own, next, Linear, linear-p, linear-n, linear-q, linear-form, linear-parts, linear-ideal, ideal-under}
 use Rattle.matching.proofs.Rows.{matching, currents, currentsUnder, spread, chain, GroupRow, groupRow}
-use Rattle.matching.proofs.Parts.{matched-in-parts, small-form, parts-within}
+use Rattle.matching.proofs.Parts.{matched-near, small-form, parts-within}
 
 -- ---- from three roundings to the number: v is K m / (65536·4053), K is 65536 N / B, and m is 4053 B w / (1000 N), each with an error
 
@@ -101,7 +99,8 @@ reduced β N B m S W y h k = rw (h, k) (simp ints (omega arith))
 
 -- an end, as the next system sees it
 pub fromNext-scaled : {K : ℤ} {g : ℕ} {x : Three} → MatchedInput K g x → MatchedInput K g (fromNext x)
-fromNext-scaled s = let h = s .sampled in record { factor = s .factor; sampled = record { group = h .group; own = h .next; next = h .before; before = h .own } }
+fromNext-scaled s =
+    let h = s .sampled in record { factor = s .factor; sampled = record { group = h .group; own = h .next; next = h .before; before = h .own } }
 
 module _ {K : ℤ} {g : ℕ} {x : Three} (s : MatchedInput K g x) (f : Bool) where
   -- what K/65,536 multiplies
@@ -109,7 +108,7 @@ module _ {K : ℤ} {g : ℕ} {x : Three} (s : MatchedInput K g x) (f : Bool) whe
   m = parts (operated (even g) f g x)
 
   v-near : errV K m (matched K g f x) within (65536 * 4053)
-  v-near = rw (matched-in-parts K g f x) (nearestAway-near (K *ℤ m) (65536 * 4053) (lit≤ tt))
+  v-near = matched-near K g f x
 
   pub one-size : matched K g f x within 761874
   one-size = sized K m (matched K g f x) (s .factor) (parts-within (s .sampled) f) v-near

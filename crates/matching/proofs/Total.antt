@@ -22,7 +22,8 @@ use Rattle.matching.proofs.OneEnd.{one-size, one-end}
 
 -- what holds of each phase, as the phase sees the three, holds of the three that a system sees
 module _ (R : Three → Three → Type 0) (x w : Three) (h : (l : System) → R (seen l x) (seen l w)) where
-  around : (l : System) → R (seen l x) (seen l w) × R (fromNext (seen l x)) (fromNext (seen l w)) × R (fromNext (fromNext (seen l x))) (fromNext (fromNext (seen l w)))
+  around : (l : System) →
+      R (seen l x) (seen l w) × R (fromNext (seen l x)) (fromNext (seen l w)) × R (fromNext (fromNext (seen l x))) (fromNext (fromNext (seen l w)))
   unfolding seen
   around sysA = (h sysA, h sysB, h sysC)
   around sysB = (h sysB, h sysC, h sysA)
