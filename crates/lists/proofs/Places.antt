@@ -1,12 +1,12 @@
 -- A list by its places: its start as `upTo`, an element of `upTo`, the rest from a place on, and a part of a list that was lent and is back.
 use mathlib.Core.Path.{_≡_, refl, sym, ap, _∙_}
 use mathlib.Core.List.{List, [], _∷_, _++_, append-assoc, append-nil, flatten}
-use Prim.Native.Nat.{ℕ, zero, suc, _+_, _-_, _<_, _≤_}
-use native.Mathlib.Nat.{zero-add, suc-add}
+use Prim.Native.Nat.{ℕ, zero, suc, _+_, _*_, _-_, _<_, _≤_}
+use native.Mathlib.Nat.{zero-add, suc-add, mul-suc}
 use native.Mathlib.Numerals.{add-one}
 use native.Mathlib.Omega.{arith}
-use lib.ListN.{length, getD, take, drop, length-drop, drop-of-length-le}
-use lib.Seq.{drop-cons, take-all}
+use lib.ListN.{length, getD, take, drop, length-drop, drop-of-length-le, List·getD-append}
+use lib.Seq.{drop-cons, take-all, getD-append-add}
 use borrow.Rule.Slice.PartMut.{putMid}
 use Rattle.lists.specs.Lists.{upTo}
 use Rattle.lists.specs.Tests.{Each, none, _&_}
@@ -51,6 +51,18 @@ pub flat-snoc : {A : Type 0} (ls : List (List A)) (l : List A) → flatten (ls +
 unfolding flatten
 flat-snoc [] l = append-nil l
 flat-snoc {A} (k ∷ ls) l = ap (λ (t : List A). k ++ t) (flat-snoc ls l) ∙ sym (append-assoc k (flatten ls) l)
+
+-- element j of list k, where all have n
+pub flat-at : {A : Type 0} {n : ℕ} {ls : List (List A)} → Each (λ l. length l ≡ n) ls → (rest : List A) (k j : ℕ) (d : A) → k < length ls → j < n →
+    getD (flatten ls ++ rest) (n * k + j) d ≡ getD (getD ls k []) j d
+unfolding flatten
+flat-at none rest k j d h i = absurd (omega arith)
+flat-at {n = n} (_&_ {a = l} {l = ls} e hs) rest zero j d h i =
+    let at : n * 0 + j ≡ j = omega arith in
+    rw (at, append-assoc l (flatten ls) rest) (List·getD-append l (flatten ls ++ rest) d j (omega arith))
+flat-at {n = n} (_&_ {a = l} {l = ls} e hs) rest (suc k) j d h i =
+    let at : n * suc k + j ≡ length l + (n * k + j) = rw mul-suc (omega arith) in
+    rw (at, append-assoc l (flatten ls) rest) (getD-append-add l (flatten ls ++ rest) (n * k + j) d) ∙ flat-at hs rest k j d (omega arith) i
 
 -- what holds of each element
 pub upTo-each : {A : Type 0} {P : A → Type 0} (n : ℕ) (f : ℕ → A) → ((k : ℕ) → k < n → P (f k)) → Each P (upTo n f)

@@ -17,7 +17,7 @@ use Rattle.integer.proofs.Reading.{ints}
 use Rattle.integer.proofs.Laws.{within-is, within-≤}
 use Rattle.integer.proofs.SumLaws.{sum-same, sum-within}
 use Rattle.lists.proofs.TestLaws.{each-get, each-append}
-use Rattle.lists.proofs.Places.{getD-upTo}
+use Rattle.lists.proofs.Places.{getD-upTo, flat-at}
 use Rattle.setting.specs.declared.Setting.{Setting}
 use Rattle.setting.specs.Values.{startable}
 use Rattle.setting.specs.Worked.{plain}
@@ -45,7 +45,7 @@ use Rattle.relay.proofs.Admission.{is-T}
 use Rattle.relay.proofs.Kept.{Valid, Step, files, declines, clears}
 use Rattle.relay.proofs.Induction.{Invariant, along, last, every}
 use Rattle.stability.specs.Lists.{last12, windowOf, filing}
-use Rattle.stability.proofs.Filing.{Twelve, each-last12, flat-at}
+use Rattle.stability.proofs.Filing.{Twelve, each-last12}
 use Rattle.stability.specs.Stability.{HealthyCall, Calm, CalmReply, CalmCall, NoLatch, Stability}
 use Rattle.stability.specs.Example.{latchAfter, fault-trips, FaultUnhealthy}
 use Rattle.stability.proofs.Demand2.{Filed, filed-fresh, window-now, filed-kept}
@@ -105,7 +105,7 @@ module _ (v : Setting) (s : T (startable v)) where
       sums-close k h =
           let four = startable-is v s .limits .four in
           let at : k < length (last12 ws) = omega (arith, eqb-true (length (last12 ws)) 12 f) in
-          within-is (sum-same _ _ (v .ends) (λ z j. flat-at (each-last12 twelves) _ k (3 * z + index l) at (omega (arith, index-small l))))
+          within-is (sum-same _ _ (v .ends) (λ z j. flat-at (each-last12 twelves) _ k (3 * z + index l) (pos 0) at (omega (arith, index-small l))))
           (each-get (each-last12 close) (close-none v) k l)
 
       d-small : differential v (held ws .values) l ≤ peak (v .ends)

@@ -3,13 +3,13 @@
 use mathlib.Core.Path.{_≡_, refl, ap, _∙_}
 use mathlib.Core.Bool.{Bool, true, false}
 use mathlib.Core.List.{List, [], _∷_, _++_, append-assoc, append-nil, flatten}
-use Prim.Native.Nat.{ℕ, zero, suc, _+_, _*_, _-_, _≤_, _<_}
+use Prim.Native.Nat.{_+_, _*_, _-_, _≤_, _<_}
 use native.Mathlib.Omega.{arith}
 use lib.Dec.{ltb}
 use borrow.Author.Tests.{lt-ltb, le-ltb, ltb-true, ltb-false}
 use lib.IntN.{ℤ, pos}
-use lib.ListN.{length, getD, take, drop, replicate, length-append, length-drop, List·getD-append, replicate-append-replicate}
-use lib.Seq.{take-at, drop-at, drop-append-add, drop-append-le, getD-append-add}
+use lib.ListN.{length, getD, take, drop, replicate, length-append, length-drop, replicate-append-replicate}
+use lib.Seq.{take-at, drop-at, drop-append-add, drop-append-le}
 use Rattle.lists.specs.Tests.{Each, none, _&_}
 use Rattle.lists.proofs.Places.{drop-next, flat-snoc}
 use Rattle.lists.proofs.TestLaws.{each-drop}
@@ -33,18 +33,6 @@ flat-length : {ws : List (List ℤ)} → Each Twelve ws → length (flatten ws) 
 unfolding flatten
 flat-length none = refl
 flat-length (_&_ {a = w} {l = ws} e h) = length-append w (flatten ws) ∙ omega (arith, e, flat-length h)
-
--- number j of set k
-pub flat-at : {ws : List (List ℤ)} → Each Twelve ws → (rest : List ℤ) (k j : ℕ) → k < length ws → j < 12 →
-    getD (flatten ws ++ rest) (12 * k + j) (pos 0) ≡ getD (getD ws k []) j (pos 0)
-unfolding flatten
-flat-at none rest k j h l = absurd (omega arith)
-flat-at (_&_ {a = w} {l = ws} e hs) rest zero j h l =
-    let i : 12 * 0 + j ≡ j = omega arith in
-    rw (i, append-assoc w (flatten ws) rest) (List·getD-append w (flatten ws ++ rest) (pos 0) j (omega arith))
-flat-at (_&_ {a = w} {l = ws} e hs) rest (suc k) j h l =
-    let i : 12 * suc k + j ≡ length w + (12 * k + j) = omega arith in
-    rw (i, append-assoc w (flatten ws) rest) (getD-append-add w (flatten ws ++ rest) (12 * k + j) (pos 0)) ∙ flat-at hs rest k j (omega arith) l
 
 -- ---- filing
 

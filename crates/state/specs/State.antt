@@ -6,6 +6,8 @@ use Prim.Native.Nat.{ℕ, _+_, _*_}
 use lib.Dec.{leb, ltb, eqb}
 use lib.IntN.{ℤ, natAbs}
 use lib.ListN.{length, take, drop}
+use Rattle.bits.specs.declared.Bits.{Bits}
+use Rattle.bits.specs.Bits.{maskOf}
 use Rattle.matching.specs.Sets.{System, sysA, sysB, sysC}
 use Rattle.state.specs.declared.Element.{Element}
 use Rattle.state.specs.declared.Trip.{Trip}
@@ -34,9 +36,12 @@ elementAfter M counts e =
 abbrev pub clear : Element
 clear = record { count = 0; latch = false }
 
--- the sum of 1, 2, 4 for the systems latched
+-- the latches of systems 1, 2, 3; and the sum of 1, 2, 4 for those latched
+abbrev pub latchesOf : Trip → Bits
+latchesOf t = record { b0 = t .a .latch; b1 = t .b .latch; b2 = t .c .latch }
+
 abbrev pub latchSum : Trip → ℕ
-latchSum t = cond (t .a .latch) 1 0 + (cond (t .b .latch) 2 0 + cond (t .c .latch) 4 0)
+latchSum t = maskOf (latchesOf t)
 
 -- ---- refusal 12, in part
 

@@ -1,13 +1,14 @@
 // The parts of the relay record: the window of matched numbers, and the counter and the latch of each system.
 
 ghost use mathlib.Core.Path.{_≡_};
-ghost use mathlib.Core.Bool.{true, cond};
+ghost use mathlib.Core.Bool.{true};
 ghost use mathlib.Core.List.{_++_};
 ghost use Prim.Native.Nat.{_+_, _≤_};
 ghost use lib.ListN.{take, drop};
 ghost use Rattle.lists.specs.Tests.{each, hold};
-ghost use Rattle.state.specs.State.{numberWithin, countersWithin, Files, counterAfter, elementAfter, latchSum};
+ghost use Rattle.state.specs.State.{numberWithin, countersWithin, Files, counterAfter, elementAfter, latchesOf, latchSum};
 ghost use Rattle.state.specs.Rows.{LatchedInARow, CountedInARow};
+use bits::Bits;
 
 // Twelve places of matched numbers: number 12k + 3z + y is that of set k (oldest 0), end z and system y. `fill` places are held.
 pub struct Window {
@@ -145,15 +146,20 @@ pub fn in_a_row()
     ensures { λ _. ⌜ LatchedInARow × CountedInARow ⌝ }
 {}
 
-fn bit(b: bool, n: u32) -> u32
-    ensures { λ r. ⌜ r ≡ cond b n 0 ⌝ }
+// The latches of systems 1, 2 and 3.
+pub fn latches(t: Trip) -> Bits
+    ensures { λ r. ⌜ r ≡ latchesOf t ⌝ }
 {
-    if b { n } else { 0 }
+    Bits {
+        b0: t.a.latch,
+        b1: t.b.latch,
+        b2: t.c.latch,
+    }
 }
 
 // The sum of 1, 2, 4 for the systems latched.
-pub fn latched(t: Trip) -> u32
+pub fn latched(t: Trip) -> u8
     ensures { λ n. ⌜ n ≡ latchSum t ⌝ }
 {
-    bit(t.a.latch, 1) + (bit(t.b.latch, 2) + bit(t.c.latch, 4))
+    bits::mask_of(latches(t))
 }

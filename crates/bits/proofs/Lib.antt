@@ -1,0 +1,2 @@
+-- Laws of three bits and their number.
+pub mod MaskLaws
