@@ -470,3 +470,49 @@ void healthy_set(struct draw *d, const struct setting *s, const struct bank *ban
         draw_limbs(d, s, &part, k, w);
     }
 }
+
+/* ---- The register page ---- */
+
+/* An offset past the page, mostly one whose low bits are those of a byte in it. */
+static uint64_t draw_beyond(struct draw *d)
+{
+    static const uint64_t beyond[8] = {
+        64, 65, 70, 255, 256, 4294967296, 4294967299, UINT64_MAX};
+
+    if (draw_chance(d, 50))
+        return beyond[draw_from(d, 0, 7)];
+    return (uint64_t)draw_from(d, 0, 7) | (uint64_t)1 << draw_from(d, 6, 63);
+}
+
+/* An offset in the page; of a write, mostly that of a byte that takes it. */
+static uint64_t draw_offset(struct draw *d, int write)
+{
+    static const uint8_t written[8] = {3, 3, 3, 3, 4, 4, 7, 7};
+
+    if (write && draw_chance(d, 90))
+        return written[draw_from(d, 0, 7)];
+    return (uint64_t)draw_from(d, 0, draw_chance(d, 60) ? 7 : 63);
+}
+
+/* A value to write: three bits, one at an edge, or any. */
+static uint8_t draw_written(struct draw *d)
+{
+    static const uint8_t edge[8] = {0, 1, 2, 7, 8, 128, 248, 255};
+    int64_t kind = draw_from(d, 0, 4);
+
+    if (kind < 2)
+        return (uint8_t)draw_from(d, 0, 7);
+    return kind < 4 ? edge[draw_from(d, 0, 7)] : (uint8_t)draw_from(d, 0, 255);
+}
+
+/* A read or a write, one of twelve past the page. */
+struct page_call draw_page_call(struct draw *d)
+{
+    struct page_call call = {(uint8_t)draw_chance(d, 45), 0, 0};
+
+    call.offset = draw_from(d, 0, 11) == 0 ? draw_beyond(d)
+                                           : draw_offset(d, call.write);
+    if (call.write)
+        call.value = draw_written(d);
+    return call;
+}

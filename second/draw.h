@@ -1,4 +1,5 @@
-/* Drawing of settings, waves and healthy banks for the comparing programs.
+/* Drawing of settings, waves, healthy banks and calls of the register page for
+ * the comparing programs.
  * All from a seed by whole-number steps, so that each run is the same. */
 #ifndef SECOND_DRAW_H
 #define SECOND_DRAW_H
@@ -55,5 +56,12 @@ struct bank {
 void draw_bank(struct draw *d, const struct setting *s, struct bank *bank);
 void healthy_set(struct draw *d, const struct setting *s, const struct bank *bank,
                  size_t k, int16_t list[SET_NUMBERS]);
+
+/* A call of the register page: a read (write is 0), or a write of a value. */
+struct page_call {
+    uint8_t write, value;
+    uint64_t offset;
+};
+struct page_call draw_page_call(struct draw *d);
 
 #endif

@@ -1,5 +1,6 @@
 /* A three-phase transformer differential relay: setting and sample blocks,
- * matching, amplitudes, characteristic, harmonic blocking and trip logic. */
+ * matching, amplitudes, characteristic, harmonic blocking, trip logic and the
+ * register page. */
 #ifndef SECOND_RELAY_H
 #define SECOND_RELAY_H
 
@@ -25,6 +26,15 @@
 #define BLOCK_ON_FIFTH 2
 #define COMMON_BLOCKING 4
 
+#define PAGE_BYTES 64       /* the register page */
+#define PAGE_FLAGS 3        /* the bytes of it that can be written */
+#define PAGE_MASK 4
+#define PAGE_RESET 7
+#define NEW_START 1         /* bits of the event flags */
+#define NEW_TRIP 2
+#define REFUSED_SET 4
+#define EVENTS 7            /* all of them */
+
 /* What the relay declines; 0 is accepted. */
 enum refusal {
     ACCEPTED = 0,
@@ -41,7 +51,9 @@ enum refusal {
     UNUSED_END_WRONG = 11,
     RECORD_WRONG = 12,
     BUFFER_TOO_SHORT = 13,
-    LIST_WRONG = 14
+    LIST_WRONG = 14,
+    PAGE_BEYOND = 15,
+    BYTE_FIXED = 16
 };
 
 /* One end of the bank: voltage in 0.1 kV, rated current in A. */
@@ -79,13 +91,16 @@ struct measured {
     uint8_t blocked;
 };
 
-/* The relay record: place 12*k + 3*z + y for set k, end z, system y. */
+/* The relay record: place 12*k + 3*z + y for set k, end z, system y. The event
+ * flags are byte 3 of the page, the interrupt mask is byte 4. */
 struct relay {
     struct setting setting;
     int32_t values[WINDOW_NUMBERS];
     uint32_t fill;
     uint32_t counters[SYSTEMS];
     uint8_t latches[SYSTEMS];
+    uint8_t flags;
+    uint8_t mask;
 };
 
 /* The answer to an accepted set: filling is 1 to 11, or 0 when measured. */
@@ -120,12 +135,17 @@ void measure_window(const struct setting *setting,
                     const int32_t values[WINDOW_NUMBERS],
                     struct measured system[SYSTEMS]);
 
-/* The relay. A refused call leaves record and answer as before. */
+/* The relay. A refused call leaves record and answer as before, but that a set
+ * refused with 14, 10 or 11 raises its flag. */
 enum refusal relay_start(const struct setting *setting, struct relay *relay,
                          size_t *offset);
 enum refusal relay_sample(struct relay *relay, const int16_t *list, size_t n,
                           struct answer *answer);
 enum refusal relay_reset(struct relay *relay);
+
+/* One byte of the register page; a refused read leaves the byte as before. */
+enum refusal relay_read(const struct relay *relay, uint64_t offset, uint8_t *byte);
+enum refusal relay_write(struct relay *relay, uint64_t offset, uint8_t byte);
 
 /* One sample block from a fresh relay: 100 plus 1, 2, 4 for the latched
  * systems, or the number of the first refusal. */

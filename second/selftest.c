@@ -273,6 +273,7 @@ static void check_refusals(void)
         int16_t list[SET_NUMBERS] = {0};
 
         before = relay;
+        before.flags |= REFUSED_SET;
         list[2] = sample[i];
         meet("sample", relay_sample(&relay, list, 12, &answer), i % 2 ? 10 : 0);
         if (i % 2)
@@ -309,6 +310,8 @@ static void check_records(void)
         struct relay one = relay[i];
 
         meet("record", relay_sample(&one, NULL, 0, &answer), i ? 12 : 14);
+        meet("flag", one.flags, i ? 0 : REFUSED_SET);
+        one.flags = 0;
         meet("as before", memcmp(&one, &relay[i], sizeof one), 0);
         meet("reset", relay_reset(&one), i ? 12 : 0);
         meet("counter", one.counters[2], i == 4 ? 2 : 0);
@@ -566,7 +569,7 @@ static int answer_same(const struct answer *a, const struct answer *b)
  * else that calls can change is the same. */
 static int record_turned(const struct relay *a, const struct relay *b)
 {
-    int same = a->fill == b->fill;
+    int same = a->fill == b->fill && a->flags == b->flags && a->mask == b->mask;
 
     for (size_t i = 0; i < WINDOW_NUMBERS; i++)
         same &= a->values[i] == -b->values[i];
@@ -727,6 +730,523 @@ static void check_turned_singles(void)
     }
 }
 
+/* ---- The register page ---- */
+
+/* Reads a byte that can be read. */
+static uint8_t page_byte(const struct relay *relay, uint64_t offset)
+{
+    uint8_t byte = 0;
+
+    meet("page read", relay_read(relay, offset, &byte), 0);
+    return byte;
+}
+
+/* All 64 bytes against those wanted. */
+static void meet_page(const struct relay *relay, const uint8_t wanted[PAGE_BYTES])
+{
+    for (size_t i = 0; i < PAGE_BYTES; i++)
+        meet("page byte", page_byte(relay, i), wanted[i]);
+}
+
+/* Writes a byte that can be written. */
+static void page_write(struct relay *relay, uint64_t offset, uint8_t byte)
+{
+    meet("page write", relay_write(relay, offset, byte), 0);
+}
+
+/* So many accepted sets with one sample on a phase of end 0, else zeros. */
+static void single_sets(struct relay *relay, size_t sets, size_t phase,
+                        int16_t sample)
+{
+    int16_t list[SET_NUMBERS] = {0};
+    struct answer a;
+
+    list[phase] = sample;
+    for (size_t i = 0; i < sets; i++)
+        meet("page set", relay_sample(relay, list, SET_NUMBERS, &a), 0);
+}
+
+/* A relay on a setting, after twelve sets of zeros. */
+static struct relay full_relay(const struct setting *s)
+{
+    struct relay relay;
+    size_t offset;
+
+    meet("start", relay_start(s, &relay, &offset), 0);
+    single_sets(&relay, WINDOW_SETS, 0, 0);
+    meet("full", relay.fill, WINDOW_SETS);
+    return relay;
+}
+
+/* Set number k of a window: phase A a peak in the last set, B and C squares. */
+static void page_set(size_t k, int16_t list[SET_NUMBERS])
+{
+    int sign = k < 6 ? 1 : -1;
+
+    memset(list, 0, SET_NUMBERS * sizeof list[0]);
+    list[0] = (int16_t)(k == 11 ? 6000 : 0);
+    list[3] = (int16_t)(k == 11 ? -2000 : 0);
+    list[1] = (int16_t)(100 * sign);
+    list[4] = (int16_t)(30 * sign);
+    list[2] = (int16_t)(32000 * sign);
+    list[5] = (int16_t)(20000 * sign);
+}
+
+/* Each byte of the page: nothing until the window is full; then D and R 666 and
+ * 1,333, 167 and 89, 66,970 and 15,454, where system 1 starts and is blocked,
+ * system 2 doesn't start, and system 3 trips. */
+static void check_page_bytes(void)
+{
+    static const uint8_t none[PAGE_BYTES] = {0};
+    static const uint8_t full[PAGE_BYTES] = {
+        4,    5,    1, 3, 0,    0, 0, 0, 0x9A, 0x02, 0, 0, 0x35, 0x05, 0, 0,
+        0xA7, 0,    0, 0, 0x59, 0, 0, 0, 0x9A, 0x05, 1, 0, 0x5E, 0x3C, 0, 0};
+    struct setting s = plain_setting;
+    int16_t list[SET_NUMBERS];
+    struct relay relay;
+    struct answer a;
+    size_t offset;
+
+    s.flags = BLOCK_ON_SECOND;
+    meet("start", relay_start(&s, &relay, &offset), 0);
+    for (size_t k = 0; k < WINDOW_SETS; k++) {
+        meet_page(&relay, none);
+        page_set(k, list);
+        meet("set", relay_sample(&relay, list, SET_NUMBERS, &a), 0);
+    }
+    meet_page(&relay, full);
+    relay.fill = 11;
+    meet("latched while filling", page_byte(&relay, 0), 4);
+    relay.latches[2] = 0;
+    page_write(&relay, 3, 3);
+    meet_page(&relay, none);
+}
+
+/* What a reset, by its call or by byte 7, and a refused set leave of the page. */
+static void check_page_reset(void)
+{
+    static const uint8_t other[5] = {0, 2, 3, 128, 255};
+    struct relay relay = full_relay(&plain_setting), by_call, before;
+    int16_t list[SET_NUMBERS] = {0, 0, 0, 0, 0, 0, 1};
+    uint8_t page[PAGE_BYTES];
+    struct answer a;
+
+    page_write(&relay, 4, 2);
+    single_sets(&relay, 1, 1, 3000);
+    for (size_t i = 0; i < PAGE_BYTES; i++)
+        page[i] = page_byte(&relay, i);
+    meet("masks", page[0] * 100 + page[1] * 10 + page[2], 220);
+    meet("flags", page[3] * 100 + page[4] * 10 + page[5], 321);
+    before = relay;
+    for (size_t i = 0; i < 5; i++)
+        page_write(&relay, 7, other[i]);
+    meet("no reset", memcmp(&relay, &before, sizeof relay), 0);
+    by_call = relay;
+    meet("reset", relay_reset(&by_call), 0);
+    page_write(&relay, 7, 1);
+    meet("one reset as the other", memcmp(&relay, &by_call, sizeof relay), 0);
+    page[0] = 0;
+    meet_page(&relay, page);
+    meet("unused end", relay_sample(&relay, list, SET_NUMBERS, &a), 11);
+    page[3] = 7;
+    meet_page(&relay, page);
+}
+
+/* Starts that go on, that go and that come again, with latches and resets. */
+static void check_new_starts(void)
+{
+    struct relay relay = full_relay(&plain_setting);
+
+    meet("no flag", relay.flags, 0);
+    single_sets(&relay, 1, 0, 3000);
+    meet("start and trip", relay.flags, 3);
+    page_write(&relay, 3, 255);
+    single_sets(&relay, 11, 0, 0);
+    meet("goes on", relay.flags * 10 + page_byte(&relay, 1), 1);
+    single_sets(&relay, 1, 0, 0);
+    meet("goes", relay.flags * 10 + page_byte(&relay, 1), 0);
+    meet("stays latched", page_byte(&relay, 0), 1);
+    single_sets(&relay, 1, 0, 3000);
+    meet("comes again, latched before", relay.flags, 1);
+    page_write(&relay, 3, 1);
+    meet("reset", relay_reset(&relay), 0);
+    meet("no flag by a reset", relay.flags, 0);
+    meet("start stays", page_byte(&relay, 1), 1);
+    single_sets(&relay, 1, 0, 0);
+    meet("latches again", relay.flags, 2);
+    single_sets(&relay, 1, 2, 3000);
+    meet("another beside it", relay.flags, 3);
+    meet("both", page_byte(&relay, 0) * 10 + page_byte(&relay, 1), 55);
+}
+
+/* A start that trips at the second set, one that is blocked, one right when the
+ * window is full, and one that goes on over a refused set. */
+static void check_new_trips(void)
+{
+    struct setting s = plain_setting;
+    struct relay relay;
+    struct answer a;
+    size_t offset;
+
+    s.confirm = 2;
+    relay = full_relay(&s);
+    single_sets(&relay, 1, 0, 3000);
+    meet("start alone", relay.flags, 1);
+    page_write(&relay, 3, 1);
+    single_sets(&relay, 1, 0, 0);
+    meet("trip alone", relay.flags, 2);
+    s.flags = BLOCK_ON_SECOND;
+    relay = full_relay(&s);
+    single_sets(&relay, 3, 0, 0);
+    single_sets(&relay, 1, 0, 3000);
+    single_sets(&relay, 5, 0, 0);
+    meet("start that is blocked", relay.flags, 1);
+    meet("start", relay_start(&plain_setting, &relay, &offset), 0);
+    single_sets(&relay, 11, 0, 3000);
+    meet("filling", relay.flags, 0);
+    single_sets(&relay, 1, 0, 0);
+    meet("just full", relay.flags, 3);
+    page_write(&relay, 3, 3);
+    meet("no set", relay_sample(&relay, NULL, 0, &a), 14);
+    meet("refused", relay.flags, 4);
+    single_sets(&relay, 1, 0, 0);
+    meet("goes on over it", relay.flags, 4);
+}
+
+/* A set that meets 10, 11 or 14 raises flag 2 and leaves all else; at 12 no
+ * flag is raised. */
+static void check_refused_flag(void)
+{
+    static const size_t place[3] = {0, 11, 0}, length[3] = {12, 12, 13};
+    static const int16_t sample[3] = {32001, 1, 0};
+    static const int refusal[3] = {10, 11, 14};
+
+    for (size_t i = 0; i < 3; i++) {
+        struct relay relay = full_relay(&plain_setting), before = relay;
+        int16_t list[SET_NUMBERS + 1] = {0};
+        struct answer a;
+
+        list[place[i]] = sample[i];
+        meet("refused", relay_sample(&relay, list, length[i], &a), refusal[i]);
+        meet("its flag", relay.flags, 4);
+        before.flags = 4;
+        meet("all else", memcmp(&relay, &before, sizeof relay), 0);
+        before.flags = 0;
+        before.fill = 13;
+        relay = before;
+        meet("refused", relay_sample(&relay, list, length[i], &a), 12);
+        meet("no flag", memcmp(&relay, &before, sizeof relay), 0);
+    }
+}
+
+/* Every flags and mask with every byte written to 3 and to 4: what is left, and
+ * byte 5. */
+static void check_page_writes(void)
+{
+    struct relay relay = full_relay(&plain_setting);
+
+    for (unsigned i = 0; i < 8 * 8 * 256; i++) {
+        unsigned flags = i % 8, mask = i / 8 % 8, byte = i / 64, left = 0;
+
+        for (unsigned bit = 1; bit < 8; bit *= 2)
+            if (flags / bit % 2 == 1 && byte / bit % 2 == 0)
+                left += bit;
+        relay.flags = (uint8_t)flags;
+        relay.mask = (uint8_t)mask;
+        meet("byte 5", page_byte(&relay, 5), (flags & mask) != 0);
+        page_write(&relay, 3, (uint8_t)byte);
+        meet("flags left", page_byte(&relay, 3), left);
+        meet("mask as before", page_byte(&relay, 4), mask);
+        meet("byte 5 of those left", page_byte(&relay, 5), (left & mask) != 0);
+        page_write(&relay, 4, (uint8_t)byte);
+        meet("three bits", page_byte(&relay, 4), byte % 8);
+        meet("flags as before", page_byte(&relay, 3), left);
+    }
+}
+
+/* Byte 5 rises with a flag under its mask bit and falls with the flag, then
+ * rises and falls with the mask; flags go one at a time. */
+static void check_interrupt(void)
+{
+    static const struct {
+        uint8_t offset, byte, flags, rises;
+    } step[] = {{4, 0xFA, 7, 1}, {3, 0xF9, 6, 1}, {3, 2, 4, 0}, {4, 0xFB, 4, 0},
+                {4, 4, 4, 1},    {3, 3, 4, 1},    {3, 0, 4, 1}, {3, 4, 0, 0}};
+    struct relay relay = full_relay(&plain_setting);
+    struct answer a;
+
+    page_write(&relay, 4, 2);
+    meet("no interrupt", page_byte(&relay, 5), 0);
+    meet("no set", relay_sample(&relay, NULL, 0, &a), 14);
+    meet("a flag that is masked", page_byte(&relay, 5), 0);
+    single_sets(&relay, 1, 0, 3000);
+    meet("interrupt", page_byte(&relay, 5), 1);
+    for (size_t i = 0; i < sizeof step / sizeof step[0]; i++) {
+        page_write(&relay, step[i].offset, step[i].byte);
+        meet("flags", page_byte(&relay, 3), step[i].flags);
+        meet("byte 5", page_byte(&relay, 5), step[i].rises);
+    }
+}
+
+/* Records that 12 covers, by number: none, then flags, mask and fill. */
+static struct relay page_record(size_t i)
+{
+    struct relay relay = full_relay(&plain_setting);
+
+    relay.flags = i == 1 ? 8 : i == 2 ? 255 : 7;
+    relay.mask = i == 3 ? 8 : i == 4 ? 255 : 7;
+    if (i == 5)
+        relay.fill = 13;
+    return relay;
+}
+
+/* Refusals 15, 16 and 12 in their order; a refused call changes nothing. */
+static void check_page_refusals(void)
+{
+    static const struct {
+        uint64_t offset;
+        int read, write;
+    } table[] = {{0, 0, 16},  {1, 0, 16},  {2, 0, 16},  {3, 0, 0},   {4, 0, 0},
+                 {5, 0, 16},  {6, 0, 16},  {7, 0, 0},   {8, 0, 16},  {31, 0, 16},
+                 {32, 0, 16}, {63, 0, 16}, {64, 15, 15}, {70, 15, 15},
+                 {259, 15, 15}, {4294967299, 15, 15},
+                 {9223372036854775815u, 15, 15}, {UINT64_MAX, 15, 15}};
+
+    for (size_t i = 0; i < 6; i++)
+        for (size_t k = 0; k < sizeof table / sizeof table[0]; k++) {
+            int later = i == 0 ? 0 : 12;
+            int read = table[k].read ? table[k].read : later;
+            int write = table[k].write ? table[k].write : later;
+            struct relay relay = page_record(i), before = relay;
+            uint8_t byte = 99;
+
+            meet("read", relay_read(&relay, table[k].offset, &byte), read);
+            meet("byte as before", !read || byte == 99, 1);
+            meet("write", relay_write(&relay, table[k].offset, 1), write);
+            if (write)
+                meet("as before", memcmp(&relay, &before, sizeof relay), 0);
+        }
+}
+
+/* Refusal 12 by flags and mask in the other calls; 7 is within the rule. */
+static void check_page_records(void)
+{
+    for (size_t i = 0; i < 6; i++) {
+        struct relay relay = page_record(i), before = relay;
+        int16_t list[SET_NUMBERS] = {0};
+        struct answer a;
+
+        meet("sample", relay_sample(&relay, list, SET_NUMBERS, &a), i ? 12 : 0);
+        meet("reset", relay_reset(&relay), i ? 12 : 0);
+        meet("flags", relay.flags, before.flags);
+        meet("mask", relay.mask, before.mask);
+        if (i)
+            meet("as before", memcmp(&relay, &before, sizeof relay), 0);
+    }
+}
+
+/* ---- Lists with calls of the page ---- */
+
+#define PAGED_LISTS 3000
+#define PAGED_CALLS 30
+
+/* The page as the answers of the calls alone tell it: bytes 0 to 4, and D and R
+ * of each system. */
+struct shadow {
+    uint8_t byte[5];
+    int32_t current[6];
+};
+
+/* Calls of the lists: page calls by read and write, those that are refused,
+ * resets by the page, and each flag raised. */
+static struct {
+    unsigned reads, writes, refused, resets, raised[3];
+} paged;
+
+/* A sample call: masks of its answer, and flags by what is new in them. */
+static void shadow_sample(struct shadow *p, enum refusal refusal,
+                          const struct answer *a)
+{
+    uint8_t latched = p->byte[0], started = p->byte[1];
+
+    if (refusal != ACCEPTED) {
+        p->byte[3] |= 4;
+        return;
+    }
+    p->byte[1] = p->byte[2] = 0;
+    memset(p->current, 0, sizeof p->current);
+    for (size_t y = 0; a->filling == 0 && y < SYSTEMS; y++) {
+        p->byte[0] |= (uint8_t)(a->latched[y] << y);
+        p->byte[1] |= (uint8_t)(a->system[y].start << y);
+        p->byte[2] |= (uint8_t)(a->system[y].blocked << y);
+        p->current[2 * y] = a->system[y].differential;
+        p->current[2 * y + 1] = a->system[y].restraint;
+    }
+    p->byte[3] |= (p->byte[1] & ~started) != 0 ? 1 : 0;
+    p->byte[3] |= (p->byte[0] & ~latched) != 0 ? 2 : 0;
+}
+
+/* A byte of the page, by the shadow. */
+static uint8_t shadow_byte(const struct shadow *p, size_t i)
+{
+    if (i < 5)
+        return p->byte[i];
+    if (i == 5)
+        return (p->byte[3] & p->byte[4]) != 0;
+    if (i < 8 || i >= 32)
+        return 0;
+    return (uint8_t)((uint32_t)p->current[(i - 8) / 4] >> (8 * (i % 4)));
+}
+
+/* An accepted write. */
+static void shadow_write(struct shadow *p, const struct page_call *call)
+{
+    if (call->offset == 3)
+        p->byte[3] &= (uint8_t)(255 - call->value);
+    if (call->offset == 4)
+        p->byte[4] = call->value % 8;
+    if (call->offset == 7 && call->value == 1)
+        p->byte[0] = 0;
+}
+
+/* What a page call on an admissible record is to answer. */
+static int page_refusal(const struct page_call *call)
+{
+    uint64_t at = call->offset;
+
+    if (at >= 64)
+        return 15;
+    return call->write && at != 3 && at != 4 && at != 7 ? 16 : 0;
+}
+
+/* A page call on the one relay; the other gets it if it is the reset write. */
+static void paged_call(struct draw *d, struct relay *relay, struct relay *other,
+                       struct shadow *p)
+{
+    struct page_call call = draw_page_call(d);
+    int wanted = page_refusal(&call);
+    uint8_t byte = 0;
+
+    paged.refused += wanted != 0;
+    if (call.write) {
+        paged.writes++;
+        meet("write", relay_write(relay, call.offset, call.value), wanted);
+        if (wanted == 0)
+            shadow_write(p, &call);
+        if (call.offset == 7 && call.value == 1) {
+            paged.resets++;
+            page_write(other, 7, 1);
+        }
+        return;
+    }
+    paged.reads++;
+    meet("read", relay_read(relay, call.offset, &byte), wanted);
+    meet("byte", byte, wanted ? 0 : shadow_byte(p, call.offset));
+}
+
+/* The sample call of both relays: the same answer. */
+static void paged_samples(struct relay *relay, struct relay *other,
+                          const int16_t *list, size_t n, struct shadow *p)
+{
+    uint8_t flags = p->byte[3];
+    struct answer a = {0}, b = {0};
+    enum refusal refusal = relay_sample(relay, list, n, &a);
+
+    meet("paged refusal", relay_sample(other, list, n, &b), refusal);
+    meet("paged answer", answer_same(&a, &b), 1);
+    shadow_sample(p, refusal, &a);
+    for (unsigned i = 0; i < 3; i++)
+        paged.raised[i] += (p->byte[3] & ~flags) >> i & 1;
+}
+
+/* The reset call of both relays. */
+static void paged_reset(struct relay *relay, struct relay *other, struct shadow *p)
+{
+    meet("reset", relay_reset(relay), 0);
+    meet("paged reset", relay_reset(other), 0);
+    p->byte[0] = 0;
+}
+
+/* The whole page against the shadow, and one record as the other but for flags
+ * and mask. */
+static void meet_paged(const struct relay *relay, const struct relay *other,
+                       const struct shadow *p)
+{
+    struct relay a = *relay, b = *other;
+    int wrong = 0;
+
+    for (size_t i = 0; i < PAGE_BYTES; i++) {
+        uint8_t byte = 0;
+
+        wrong += relay_read(relay, i, &byte) != ACCEPTED;
+        wrong += byte != shadow_byte(p, i);
+    }
+    meet("bytes not as the answers tell", wrong, 0);
+    a.flags = b.flags = a.mask = b.mask = 0;
+    meet("paged record", memcmp(&a, &b, sizeof a), 0);
+}
+
+/* A list of calls on two fresh relays, on one of them with page calls. */
+static void paged_list(struct draw *d, const struct scene *scene)
+{
+    int16_t list[2 * SET_NUMBERS] = {0};
+    struct relay relay, other;
+    struct shadow p = {0};
+    size_t offset;
+
+    meet("start", relay_start(&scene->setting, &relay, &offset), 0);
+    meet("start", relay_start(&scene->setting, &other, &offset), 0);
+    for (size_t k = 0; k < PAGED_CALLS; k++) {
+        int64_t call = draw_from(d, 0, 99);
+
+        for (int64_t n = draw_from(d, 0, 5); n > 0; n--)
+            paged_call(d, &relay, &other, &p);
+        turned_set(d, scene, k, list);
+        if (call < 5)
+            paged_reset(&relay, &other, &p);
+        else
+            paged_samples(&relay, &other, list,
+                          call < 7 ? (size_t)draw_from(d, 0, 24) : SET_NUMBERS, &p);
+        if (k % 3 == 2)
+            meet_paged(&relay, &other, &p);
+    }
+}
+
+/* Reads and writes, but for the reset write, alter no answer and of the record
+ * only flags and mask; and the page is what the answers tell. */
+static void check_paged_lists(void)
+{
+    struct draw d = {0x9A6E};
+    struct scene scene;
+
+    for (unsigned i = 0; i < PAGED_LISTS; i++) {
+        draw_turned(&d, i, &scene);
+        paged_list(&d, &scene);
+    }
+    for (unsigned i = 0; i < 3; i++)
+        meet("flag raised", paged.raised[i] > 0, 1);
+    meet("page calls refused", paged.refused > 0, 1);
+    meet("resets by the page", paged.resets > 0, 1);
+    printf("second: %u lists with %u page reads, %u writes, %u of them refused, %u "
+           "resets; flags raised %u, %u, %u\n", PAGED_LISTS, paged.reads,
+           paged.writes, paged.refused, paged.resets, paged.raised[0],
+           paged.raised[1], paged.raised[2]);
+}
+
+/* The worked cases of the register page (document 02, card 2). */
+static void check_page(void)
+{
+    check_page_bytes();
+    check_page_reset();
+    check_new_starts();
+    check_new_trips();
+    check_refused_flag();
+    check_page_writes();
+    check_interrupt();
+    check_page_refusals();
+    check_page_records();
+}
+
 int main(void)
 {
     check_factors();
@@ -746,6 +1266,8 @@ int main(void)
     check_trip();
     check_turned_singles();
     check_turned_lists();
+    check_page();
+    check_paged_lists();
     if (failures != 0) {
         printf("second: selftest %u of %u checks fail\n", failures, checks);
         return 1;
