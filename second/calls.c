@@ -1,10 +1,14 @@
 /* Whole records of calls: `calls input` writes the blocks, `calls expect` the
  * answers. The first byte of a block tells its kind: a setting block starts a
  * relay, each set of a sample block is one sample call, a reset block is one
- * reset call, and a list block one sample call of a list of any length. Between
- * calls, a change block puts a part of the relay record to another value, and
- * a print block has the record printed. Some records come once more with every
- * sample negated: the answers must be the same. */
+ * reset call, and a list block one sample call of a list of any length. A page
+ * block holds up to 42 reads and writes of the register page: byte 1 tells how
+ * many, and each takes 12 bytes from 4 on, byte 0 of them 0 for a read or 1 for
+ * a write, byte 1 the value written, and bytes 4 to 11 the offset. A view block
+ * is one read of each byte of the page. Between calls, a change block puts a part
+ * of the relay record to another value, and a print block has the record
+ * printed. Some records come once more with every sample negated: the answers
+ * must be the same. */
 #include "parts.h"
 
 #include <stdarg.h>
@@ -15,13 +19,18 @@
 #define RECORDS 300         /* of calls alone */
 #define ROUND 10            /* changes in a record of calls and changes */
 #define ROUNDS (3 * CHANGES / ROUND)
-#define MOST_BLOCKS 140
+#define WATCHED 30          /* records of sets watched one by one */
+#define MOST_BLOCKS 250
 #define MOST_TEXT 65536     /* that a record's answers take */
 #define TURNED 11           /* one of so many records of calls comes turned too */
+#define PAGE_CALLS 42       /* that a page block can hold */
+#define PAGE_CALL_BYTES 12
+#define PAGE_KIND 0x47
 #define LIST_KIND 0x4C
 #define PRINT_KIND 0x50
 #define RESET_KIND 0x52
 #define SAMPLE_KIND 0x53
+#define VIEW_KIND 0x56
 
 enum scene_kind { HEALTHY, FAULT, INRUSH, BURSTS, NOISE };
 
@@ -33,27 +42,48 @@ struct record {
     int healthy, kept;
 };
 
-/* What the calls of a record come to: the lines, the relay after them, and sets
- * that are measured, that start and that show a latch. */
+/* What the calls of a record come to: the lines, the relay after them, sets
+ * that are measured, that start and that show a latch, page and view blocks, and
+ * how far byte 5 was seen: 1 at a zero, 2 at a one after it. */
 struct outcome {
     char text[MOST_TEXT];
     size_t length;
     struct relay relay;
-    unsigned measured, started, latched;
+    unsigned measured, started, latched, paged, seen;
 };
 
 /* Calls by what is asked, and what may be wrong with a record. */
 enum asked { SOUND_SET, UNSOUND_SET, NO_SET, RESET, ASKED };
 enum fault {
-    NONE, BREAKS_4, BREAKS_5, BREAKS_6, BREAKS_7, FILL, NUMBER, COUNTER, FAULTS
+    NONE, BREAKS_4, BREAKS_5, BREAKS_6, BREAKS_7, FILL, NUMBER, COUNTER, PAGE,
+    FAULTS
 };
 
-/* What a run has: records, answers, refusals 12 by the call, changes by their
- * part and by the fault that they make; and of the turned records how many
- * there are, and their sets measured, that start and that show a latch. */
+/* What may be wrong with a page call, as bits: refusals 15, 16 and 12. */
+enum { BEYOND = 1, FIXED = 2, INADMISSIBLE = 4, PAGE_FAULTS = 8 };
+
+/* What a run has: records, those of healthy banks, answers to sample and reset
+ * calls, refusals 12 by the call, changes by their part and by the fault that
+ * they make; and of the turned records how many there are, and their sets
+ * measured, that start and that show a latch. */
 static struct {
-    unsigned records, answers, declined[ASKED], changes[4][FAULTS], turned[4];
+    unsigned records, healthy, answers, declined[ASKED];
+    unsigned changes[PART_KINDS][FAULTS], turned[4];
 } told;
+
+/* What a run has of the page: records with page or view blocks, those of them
+ * that are turned, views of a full window, of another, of another with a latch,
+ * and refused; page calls by read or write and all their faults, those whose
+ * answer isn't the first fault; reads by byte, and writes by byte and value;
+ * resets by call and by page, of any relay and of one with a latch; flags raised
+ * together, and cleared together; starts and latches that go on and raise no
+ * flag, and flags raised beside such; byte 5 seen to rise and to fall; and flags
+ * and mask changed to 7, 8, 255. */
+static struct {
+    unsigned records, turned, views[4], calls[2][PAGE_FAULTS], wrong;
+    unsigned read[PAGE_BYTES], written[10], resets[4], raised[8], cleared[8];
+    unsigned goes_on[2], beside[2], turns[2], changed[6];
+} paged;
 
 /* Writes a part of an answer down; nowhere while a record is only followed. */
 static struct outcome *heard;
@@ -87,8 +117,12 @@ struct scene {
 /* The next block of a record, all zero. */
 static uint8_t *next_block(struct record *r)
 {
-    uint8_t *block = r->block[r->blocks++];
+    uint8_t *block = r->block[r->blocks];
 
+    if (r->blocks++ == MOST_BLOCKS) {
+        fputs("calls: no room for a record's blocks\n", stderr);
+        exit(1);
+    }
     memset(block, 0, BLOCK_BYTES);
     return block;
 }
@@ -277,7 +311,81 @@ static void add_reset(struct record *r)
     r->calls++;
 }
 
-/* A record of 20 to 120 calls on a relay that starts. */
+/* A page call into its twelve bytes. */
+static void lay_page_call(struct page_call call, uint8_t *at)
+{
+    at[0] = call.write;
+    at[1] = call.value;
+    for (size_t i = 0; i < 8; i++)
+        at[4 + i] = (uint8_t)(call.offset >> (8 * i));
+}
+
+/* The page call out of its twelve bytes. */
+static struct page_call take_page_call(const uint8_t *at)
+{
+    struct page_call call = {at[0], at[1], 0};
+
+    for (size_t i = 8; i > 0; i--)
+        call.offset = call.offset << 8 | at[3 + i];
+    return call;
+}
+
+/* A page block of so many calls. */
+static void add_page_calls(struct record *r, const struct page_call *call, size_t n)
+{
+    uint8_t *block = next_block(r);
+
+    block[0] = PAGE_KIND;
+    block[1] = (uint8_t)n;
+    for (size_t i = 0; i < n; i++)
+        lay_page_call(call[i], block + 4 + PAGE_CALL_BYTES * i);
+}
+
+/* A page block of any calls, mostly few. */
+static void add_page(struct draw *d, struct record *r)
+{
+    struct page_call call[PAGE_CALLS];
+    size_t n = draw_chance(d, 2) ? 0 : (size_t)draw_spread(d, 1, PAGE_CALLS);
+
+    for (size_t i = 0; i < n; i++)
+        call[i] = draw_page_call(d);
+    add_page_calls(r, call, n);
+}
+
+/* A view block. */
+static void add_view(struct record *r)
+{
+    next_block(r)[0] = VIEW_KIND;
+}
+
+/* Now and then a page block, a view block or both. */
+static void maybe_page(struct draw *d, struct record *r)
+{
+    if (draw_chance(d, 40))
+        add_page(d, r);
+    if (draw_chance(d, 12))
+        add_view(r);
+}
+
+/* Some sets one by one: after each the interrupt mask is put, masks, flags and
+ * byte 5 are read, flags are cleared, all or one, and are read again. */
+static void add_watched(struct draw *d, struct scene *scene, struct record *r)
+{
+    for (int64_t n = draw_from(d, 2, 6); n > 0; n--) {
+        uint8_t mask = (uint8_t)draw_from(d, 0, 255);
+        uint8_t one = (uint8_t)(1u << draw_from(d, 0, 2));
+        uint8_t clear = draw_chance(d, 60) ? 255 : one;
+        const struct page_call call[9] = {
+            {1, mask, 4}, {0, 0, 0}, {0, 0, 1}, {0, 0, 2}, {0, 0, 3}, {0, 0, 5},
+            {1, clear, 3}, {0, 0, 3}, {0, 0, 5}};
+
+        add_sets(d, scene, r, 1, 1);
+        add_page_calls(r, call, 9);
+    }
+}
+
+/* A record of 20 to 120 calls, and page calls between them, on a relay that
+ * starts. */
 static void build_calls(struct draw *d, size_t i, struct record *r)
 {
     struct scene scene;
@@ -291,12 +399,40 @@ static void build_calls(struct draw *d, size_t i, struct record *r)
 
         if (kind < 50)
             add_samples(d, &scene, r, kind < 30);
-        else if (kind < 85)
+        else if (kind < 80)
             add_list(d, &scene, r);
-        else if (kind < 95 || r->blocks > MOST_BLOCKS - 30)
+        else if (kind < 88 || r->blocks > MOST_BLOCKS / 2)
             add_reset(r);
+        else if (kind < 96)
+            add_watched(d, &scene, r);
         else
             add_refused_samples(d, &scene, r);
+        maybe_page(d, r);
+    }
+}
+
+/* A record of sets watched one by one: short faults, few sets to confirm, and
+ * all groups 0 without filter, so that each system starts by itself. */
+static void build_watched(struct draw *d, size_t i, struct record *r)
+{
+    struct scene scene;
+    struct setting *s = &scene.setting;
+
+    draw_scene(d, i, &scene);
+    scene.kind = BURSTS;
+    s->confirm = (uint8_t)draw_from(d, 1, 3);
+    s->pick_up = (uint16_t)draw_from(d, 100, 600);
+    for (size_t z = 0; z < s->ends; z++)
+        s->end[z].group = s->end[z].filter = 0;
+    draw_bank(d, s, &scene.bank);
+    draw_fault(d, &scene);
+    lay_setting(s, next_block(r));
+    add_sets(d, &scene, r, (size_t)draw_from(d, 9, 12), 0);
+    for (int k = 0; k < 10; k++) {
+        add_watched(d, &scene, r);
+        maybe_page(d, r);
+        if (draw_chance(d, 25))
+            add_reset(r);
     }
 }
 
@@ -340,6 +476,8 @@ static void build_refused(struct draw *d, size_t i, struct record *r)
              (enum refusal)wanted);
     add_samples(d, &scene, r, 0);
     add_reset(r);
+    add_page(d, r);
+    add_view(r);
     add_samples(d, &scene, r, 0);
 }
 
@@ -383,6 +521,64 @@ static void count_measured(const struct answer *a)
     heard->latched += (unsigned)latched;
 }
 
+/* What makes a record inadmissible, by document 01's row for refusal 12 and
+ * document 02, card 2. */
+static enum fault record_fault(const struct relay *relay)
+{
+    size_t offset;
+    enum refusal refusal = setting_refusal(&relay->setting, &offset);
+
+    if (refusal != ACCEPTED)
+        return (enum fault)(BREAKS_4 + refusal - ENDS_WRONG);
+    if (relay->fill > WINDOW_SETS)
+        return FILL;
+    for (size_t i = 0; i < WINDOW_NUMBERS; i++)
+        if (relay->values[i] < -MATCHED_LIMIT || relay->values[i] > MATCHED_LIMIT)
+            return NUMBER;
+    for (size_t y = 0; y < SYSTEMS; y++)
+        if (relay->counters[y] > relay->setting.confirm)
+            return COUNTER;
+    return relay->flags > 7 || relay->mask > 7 ? PAGE : NONE;
+}
+
+/* A mask of the page, 0 where it can't be read. */
+static uint8_t page_mask(const struct relay *relay, uint64_t offset)
+{
+    uint8_t mask = 0;
+
+    relay_read(relay, offset, &mask);
+    return mask;
+}
+
+/* Counts the flags that an answered sample call raised; and, of starts and of
+ * latches, those that go on with no flag, and those beside one that is raised. */
+static void count_flags(const struct relay *before, const struct relay *relay,
+                        enum refusal refusal)
+{
+    unsigned raised = relay->flags & ~(unsigned)before->flags & 7;
+
+    if (heard == NULL)
+        return;
+    paged.raised[raised]++;
+    for (unsigned i = 0; refusal == ACCEPTED && i < 2; i++) {
+        int on = (page_mask(before, 1 - i) & page_mask(relay, 1 - i)) != 0;
+
+        if (raised >> i & 1)
+            paged.beside[i] += (unsigned)on;
+        else if (!(relay->flags >> i & 1))
+            paged.goes_on[i] += (unsigned)on;
+    }
+}
+
+/* Counts an accepted reset, 0 by its call and 1 by the page. */
+static void count_reset(const struct relay *before, int by_page)
+{
+    if (heard == NULL)
+        return;
+    paged.resets[by_page]++;
+    paged.resets[2 + by_page] += page_mask(before, 0) != 0;
+}
+
 /* What a sample call asks: whether 14, or 10 or 11, would decline it too. */
 static enum asked asked(const struct relay *relay, const int16_t *list, size_t n)
 {
@@ -395,31 +591,42 @@ static enum asked asked(const struct relay *relay, const int16_t *list, size_t n
     return SOUND_SET;
 }
 
-/* One sample call and its line; whether it is right for a healthy bank. */
+/* The line of an accepted set. */
+static void say_answer(const struct answer *a)
+{
+    if (a->filling != 0) {
+        say("F %u\n", a->filling);
+        return;
+    }
+    say("M");
+    for (size_t y = 0; y < SYSTEMS; y++) {
+        const struct measured *m = &a->system[y];
+
+        say(" %d %d %d %d %d %d %d", m->differential, m->restraint, m->second,
+            m->fifth, m->start, m->blocked, a->latched[y]);
+    }
+    say("\n");
+}
+
+/* One sample call and its line; whether it is right for a healthy bank, which
+ * raises no flag of a start or a trip. */
 static int sample_call(struct relay *relay, const int16_t *list, size_t n)
 {
     struct answer a;
+    struct relay before = *relay;
     enum refusal refusal = relay_sample(relay, list, n, &a);
+    int quiet = (relay->flags & (NEW_START | NEW_TRIP)) == 0;
 
     count_answer(refusal, asked(relay, list, n));
+    count_flags(&before, relay, refusal);
     if (refusal != ACCEPTED) {
         say("refused %d\n", refusal);
-        return 1;
+        return quiet;
     }
-    if (a.filling != 0) {
-        say("F %u\n", a.filling);
-        return 1;
-    }
-    count_measured(&a);
-    say("M");
-    for (size_t y = 0; y < SYSTEMS; y++) {
-        const struct measured *m = &a.system[y];
-
-        say(" %d %d %d %d %d %d %d", m->differential, m->restraint, m->second,
-            m->fifth, m->start, m->blocked, a.latched[y]);
-    }
-    say("\n");
-    return healthy_answer(&a, relay->setting.ends);
+    if (a.filling == 0)
+        count_measured(&a);
+    say_answer(&a);
+    return quiet && healthy_answer(&a, relay->setting.ends);
 }
 
 /* The sample calls of a sample block, or its refusal. */
@@ -451,18 +658,158 @@ static int list_call(struct relay *relay, const uint8_t *block)
 /* The reset call and its line. */
 static int reset_call(struct relay *relay)
 {
+    struct relay before = *relay;
     enum refusal refusal = relay_reset(relay);
 
     count_answer(refusal, RESET);
+    if (refusal != ACCEPTED) {
+        say("refused %d\n", refusal);
+        return 1;
+    }
+    count_reset(&before, 0);
+    say("reset\n");
+    return 1;
+}
+
+/* All that is wrong with a page call. */
+static unsigned page_faults(const struct relay *relay, const struct page_call *call)
+{
+    uint64_t at = call->offset;
+    unsigned faults = record_fault(relay) == NONE ? 0 : INADMISSIBLE;
+
+    if (at >= 64)
+        faults |= BEYOND;
+    if (call->write && at != 3 && at != 4 && at != 7)
+        faults |= FIXED;
+    return faults;
+}
+
+/* The refusal of a page call by its faults, in document 02's order. */
+static enum refusal first_fault(unsigned faults)
+{
+    if (faults & BEYOND)
+        return PAGE_BEYOND;
+    if (faults & FIXED)
+        return BYTE_FIXED;
+    return faults & INADMISSIBLE ? RECORD_WRONG : ACCEPTED;
+}
+
+/* An accepted write by byte and value: 3 with 0, 255, others; 4 with three bits,
+ * more; 7 with 0, 1, 2, 255, others. */
+static size_t written_kind(const struct page_call *call)
+{
+    uint8_t value = call->value;
+
+    if (call->offset == 3)
+        return value == 0 ? 0 : value == 255 ? 1 : 2;
+    if (call->offset == 4)
+        return value <= 7 ? 3 : 4;
+    return value <= 2 ? 5u + value : value == 255 ? 8 : 9;
+}
+
+/* Counts byte 5 as it is seen: rising from 0 to 1, and falling to 0 again. */
+static void count_byte5(uint8_t byte)
+{
+    if (byte == 1 && heard->seen == 1) {
+        heard->seen = 2;
+        paged.turns[0]++;
+    } else if (byte == 0) {
+        paged.turns[1] += heard->seen == 2;
+        heard->seen = 1;
+    }
+}
+
+/* Counts an accepted page call. */
+static void count_accepted(const struct page_call *call, uint8_t byte,
+                           const struct relay *before, const struct relay *relay)
+{
+    if (!call->write) {
+        paged.read[call->offset]++;
+        if (call->offset == 5)
+            count_byte5(byte);
+        return;
+    }
+    paged.written[written_kind(call)]++;
+    if (call->offset == 3)
+        paged.cleared[before->flags & ~(unsigned)relay->flags]++;
+    if (call->offset == 7 && call->value == 1)
+        count_reset(before, 1);
+}
+
+/* One read or write and its line. */
+static void register_call(struct relay *relay, const struct page_call *call)
+{
+    struct relay before = *relay;
+    unsigned faults = page_faults(relay, call);
+    uint8_t byte = 0;
+    enum refusal refusal =
+        call->write ? relay_write(relay, call->offset, call->value)
+                    : relay_read(relay, call->offset, &byte);
+
     if (refusal != ACCEPTED)
         say("refused %d\n", refusal);
+    else if (call->write)
+        say("written\n");
     else
-        say("reset\n");
+        say("byte %u\n", byte);
+    if (heard == NULL)
+        return;
+    paged.calls[call->write][faults]++;
+    paged.wrong += refusal != first_fault(faults);
+    if (refusal == ACCEPTED)
+        count_accepted(call, byte, &before, relay);
+}
+
+/* The calls of a page block. */
+static int page_calls(struct relay *relay, const uint8_t *block)
+{
+    for (size_t i = 0; i < block[1]; i++) {
+        struct page_call call = take_page_call(block + 4 + PAGE_CALL_BYTES * i);
+
+        register_call(relay, &call);
+    }
+    if (heard != NULL)
+        heard->paged++;
+    return 1;
+}
+
+/* Counts a view. */
+static void count_view(const struct relay *relay)
+{
+    size_t kind = page_mask(relay, 0) != 0 ? 2 : 1;
+
+    if (heard == NULL)
+        return;
+    if (record_fault(relay) != NONE)
+        kind = 3;
+    else if (relay->fill == WINDOW_SETS)
+        kind = 0;
+    paged.views[kind]++;
+    heard->paged++;
+}
+
+/* The reads of a view block, in one line. */
+static int view_page(const struct relay *relay)
+{
+    say("page");
+    for (uint64_t i = 0; i < PAGE_BYTES; i++) {
+        uint8_t byte = 0;
+        enum refusal refusal = relay_read(relay, i, &byte);
+
+        if (refusal != ACCEPTED)
+            say(" refused %d", refusal);
+        else
+            say(" %u", byte);
+        if (heard != NULL && refusal == ACCEPTED && i == 5)
+            count_byte5(byte);
+    }
+    say("\n");
+    count_view(relay);
     return 1;
 }
 
 /* The whole record in a line: setting fields, fill, counter and latch of each
- * system, matched numbers. */
+ * system, flags and interrupt mask, matched numbers. */
 static int print_record(const struct relay *relay)
 {
     say("record");
@@ -474,6 +821,7 @@ static int print_record(const struct relay *relay)
     say(" %u", relay->fill);
     for (size_t y = 0; y < SYSTEMS; y++)
         say(" %u %u", relay->counters[y], relay->latches[y]);
+    say(" %u %u", relay->flags, relay->mask);
     for (size_t i = 0; i < WINDOW_NUMBERS; i++)
         say(" %d", relay->values[i]);
     say("\n");
@@ -501,6 +849,8 @@ static int call_block(struct relay *relay, const uint8_t *block)
     case LIST_KIND: return list_call(relay, block);
     case CHANGE_KIND: change_part(relay, take_change(block)); return 1;
     case PRINT_KIND: return print_record(relay);
+    case PAGE_KIND: return page_calls(relay, block);
+    case VIEW_KIND: return view_page(relay);
     default: return reset_call(relay);
     }
 }
@@ -521,23 +871,13 @@ static void add_change(struct record *r, struct relay *relay, struct change chan
     follow(r, relay);
 }
 
-/* What makes a record inadmissible, by document 01's row for refusal 12. */
-static enum fault record_fault(const struct relay *relay)
+/* Counts flags or interrupt mask changed to 7, 8 or 255. */
+static void count_page_change(struct change change)
 {
-    size_t offset;
-    enum refusal refusal = setting_refusal(&relay->setting, &offset);
+    static const uint8_t value[3] = {7, 8, 255};
 
-    if (refusal != ACCEPTED)
-        return (enum fault)(BREAKS_4 + refusal - ENDS_WRONG);
-    if (relay->fill > WINDOW_SETS)
-        return FILL;
-    for (size_t i = 0; i < WINDOW_NUMBERS; i++)
-        if (relay->values[i] < -MATCHED_LIMIT || relay->values[i] > MATCHED_LIMIT)
-            return NUMBER;
-    for (size_t y = 0; y < SYSTEMS; y++)
-        if (relay->counters[y] > relay->setting.confirm)
-            return COUNTER;
-    return NONE;
+    for (size_t i = 0; change.part.kind == PAGE_PART && i < 3; i++)
+        paged.changed[3 * change.part.which + i] += change.value == value[i];
 }
 
 /* Some calls and the record printed: all kinds of calls where they are to be
@@ -545,11 +885,14 @@ static enum fault record_fault(const struct relay *relay)
 static void add_some_calls(struct draw *d, struct scene *scene, struct record *r,
                            int refused)
 {
+    if (refused || draw_chance(d, 50))
+        add_page(d, r);
     add_sets(d, scene, r, (size_t)draw_from(d, 1, 2), draw_chance(d, 40));
     if (refused || draw_chance(d, 20))
         add_list(d, scene, r);
     if (refused || draw_chance(d, 20))
         add_reset(r);
+    maybe_page(d, r);
     next_block(r)[0] = PRINT_KIND;
 }
 
@@ -565,6 +908,7 @@ static void add_changed_calls(struct draw *d, struct scene *scene, struct record
     add_change(r, relay, change);
     fault = record_fault(relay);
     told.changes[change.part.kind][fault]++;
+    count_page_change(change);
     add_some_calls(d, scene, r, fault != NONE);
     follow(r, relay);
     if (fault != NONE || draw_chance(d, 50))
@@ -593,8 +937,27 @@ static void build_changes(struct draw *d, size_t i, struct record *r)
                           edge_change(d, &relay, 97 * k % CHANGES));
 }
 
+/* A latched relay, its fill put below a full window: viewed, and once more after
+ * a set. */
+static void add_unfilled(struct draw *d, struct scene *scene, struct record *r,
+                         struct relay *relay, uint32_t fill)
+{
+    struct change change = {{FILL_PART, 0}, fill};
+
+    add_sets(d, scene, r, WINDOW_SETS, 0);
+    follow(r, relay);
+    add_change(r, relay, change);
+    told.changes[FILL_PART][record_fault(relay)]++;
+    add_view(r);
+    add_sets(d, scene, r, 1, 0);
+    add_view(r);
+    add_page(d, r);
+    next_block(r)[0] = PRINT_KIND;
+    follow(r, relay);
+}
+
 /* A record on document 01's plain setting: factors just at their limits and
- * just past them. */
+ * just past them, and fills below a full window. */
 static void build_limits(struct draw *d, struct record *r)
 {
     static const uint32_t current[4] = {16000, 16001, 500, 499};
@@ -612,6 +975,8 @@ static void build_limits(struct draw *d, struct record *r)
         add_changed_calls(d, &scene, r, &relay, change);
         add_change(r, &relay, back);
     }
+    for (uint32_t fill = 0; fill < WINDOW_SETS; fill++)
+        add_unfilled(d, &scene, r, &relay, fill);
 }
 
 /* ---- Turned records ---- */
@@ -664,12 +1029,14 @@ static int turned_alike(const struct outcome *turned, const struct outcome *befo
 /* ---- The run ---- */
 
 /* Record number i: first those of calls alone, each sixth of them on a refused
- * setting; then those with changes. */
+ * setting; then those with changes, and those of sets watched one by one. */
 static void build(struct draw *d, size_t i, struct record *r)
 {
     memset(r, 0, sizeof *r);
     r->kept = 1;
-    if (i == RECORDS + ROUNDS)
+    if (i > RECORDS + ROUNDS)
+        build_watched(d, i, r);
+    else if (i == RECORDS + ROUNDS)
         build_limits(d, r);
     else if (i >= RECORDS)
         build_changes(d, i - RECORDS, r);
@@ -679,10 +1046,12 @@ static void build(struct draw *d, size_t i, struct record *r)
         build_calls(d, i / 6 * 5 + i % 6, r);
 }
 
-/* Whether record number i comes turned as well: some of those of calls alone,
+/* Whether record number i comes turned as well: some of those without changes,
  * on a relay that starts. */
 static int comes_turned(size_t i)
 {
+    if (i > RECORDS + ROUNDS)
+        return i % TURNED == 0;
     return i < RECORDS && i % 6 != 5 && (i / 6 * 5 + i % 6) % TURNED == 0;
 }
 
@@ -700,11 +1069,13 @@ static int put_expected(const struct record *r, struct outcome *out)
 
     memset(out, 0, sizeof *out);
     heard = out;
+    told.healthy += (unsigned)r->healthy;
     started = setting_call(&out->relay, r->block[0], BLOCK_BYTES);
     for (size_t i = 1; started && i < r->blocks; i++)
         right &= call_block(&out->relay, r->block[i]);
     heard = NULL;
     told.records++;
+    paged.records += out->paged != 0;
     return put_text(out) && r->kept && (right || !r->healthy);
 }
 
@@ -715,6 +1086,7 @@ static int put_turned(const struct record *r, const struct outcome *before)
 
     if (!put_expected(r, &out) || !turned_alike(&out, before))
         return 0;
+    paged.turned += out.paged != 0;
     told.turned[0]++;
     told.turned[1] += out.measured;
     told.turned[2] += out.started;
@@ -779,6 +1151,48 @@ static int tell(const char *what, const unsigned *number, size_t n)
     return all;
 }
 
+/* Tells reads and writes of the page; whether each byte is read, each kind of
+ * write is there, and each lot of faults that a call can have at once. */
+static int page_calls_told(void)
+{
+    const unsigned *r = paged.calls[0], *w = paged.calls[1];
+    const unsigned reads[4] = {r[0], r[BEYOND], r[INADMISSIBLE],
+                               r[BEYOND | INADMISSIBLE]};
+    const unsigned writes[6] = {w[0], w[FIXED], w[INADMISSIBLE], w[BEYOND | FIXED],
+                                w[FIXED | INADMISSIBLE], w[PAGE_FAULTS - 1]};
+    unsigned fewest = paged.read[0];
+
+    for (size_t i = 1; i < PAGE_BYTES; i++)
+        if (paged.read[i] < fewest)
+            fewest = paged.read[i];
+    fprintf(stderr, "calls: %u records with page calls, %u of them turned; each "
+            "byte read %u times or more; refusals out of order %u\n",
+            paged.records, paged.turned, fewest, paged.wrong);
+    return (fewest != 0 && paged.turned != 0 && paged.wrong == 0) &
+           tell("views (full; filling; filling, latched; 12)", paged.views, 4) &
+           tell("page reads (0; 15; 12; 15 12)", reads, 4) &
+           tell("page writes (0; 16; 12; 15 16; 16 12; 15 16 12)", writes, 6) &
+           tell("bytes written (3: 0, 255, other; 4: to 7, above; "
+                "7: 0, 1, 2, 255, other)", paged.written, 10);
+}
+
+/* Tells what page and calls do to each other; whether all of it is there. A set
+ * raises the flags 1, 2, 3 or 4, and a write clears any. */
+static int page_events_told(void)
+{
+    const unsigned *up = paged.raised;
+    const unsigned raised[4] = {up[1], up[2], up[3], up[4]};
+
+    return (up[5] + up[6] + up[7] == 0) &
+           tell("resets (by call, by page; of a latched relay)", paged.resets, 4) &
+           tell("flags raised (start; trip; both; refused set)", raised, 4) &
+           tell("no flag, goes on (start; latch)", paged.goes_on, 2) &
+           tell("flag beside one that goes on (start; latch)", paged.beside, 2) &
+           tell("flags cleared (none, then 1 to 7)", paged.cleared, 8) &
+           tell("byte 5 seen (to rise; to fall again)", paged.turns, 2) &
+           tell("changed to 7, 8, 255 (flags; mask)", paged.changed, 6);
+}
+
 /* Tells what the run has; whether every kind of refusal 12 and of change is
  * among it, and turned records that start and latch. A change of the setting can
  * break 4 to 7, or leave a counter above M; one of another part breaks that
@@ -787,18 +1201,22 @@ static int all_told(void)
 {
     const unsigned *s = told.changes[SETTING_PART], *f = told.changes[FILL_PART];
     const unsigned *v = told.changes[NUMBER_PART], *c = told.changes[COUNTER_PART];
-    const unsigned within[4] = {s[NONE], f[NONE], v[NONE], c[NONE]};
-    const unsigned past[8] = {s[BREAKS_4], s[BREAKS_5], s[BREAKS_6], s[BREAKS_7],
-                              s[COUNTER],  f[FILL],     v[NUMBER],   c[COUNTER]};
+    const unsigned *p = told.changes[PAGE_PART];
+    const unsigned within[5] = {s[NONE], f[NONE], v[NONE], c[NONE], p[NONE]};
+    const unsigned past[9] = {s[BREAKS_4], s[BREAKS_5], s[BREAKS_6],
+                              s[BREAKS_7], s[COUNTER],  f[FILL],
+                              v[NUMBER],   c[COUNTER],  p[PAGE]};
 
-    fprintf(stderr, "calls: %u records, %u answers\n", told.records, told.answers);
+    fprintf(stderr, "calls: %u records, %u of healthy banks, %u answers to sample "
+            "and reset calls\n", told.records, told.healthy, told.answers);
     fprintf(stderr, "calls: %u records turned, sets measured %u, started %u, latched "
             "%u\n", told.turned[0], told.turned[1], told.turned[2], told.turned[3]);
     if (told.turned[2] == 0 || told.turned[3] == 0)
         return 0;
     return tell("refused 12", told.declined, ASKED) &
-           tell("changes within the rules", within, 4) &
-           tell("changes past them", past, 8);
+           tell("changes within the rules", within, 5) &
+           tell("changes past them", past, 9) & page_calls_told() &
+           page_events_told();
 }
 
 int main(int argc, char **argv)
@@ -810,7 +1228,7 @@ int main(int argc, char **argv)
         fputs("usage: calls input|expect\n", stderr);
         return 2;
     }
-    for (size_t i = 0; i <= RECORDS + ROUNDS; i++)
+    for (size_t i = 0; i <= RECORDS + ROUNDS + WATCHED; i++)
         if (!put(&d, i, input)) {
             fprintf(stderr, "calls: record %zu is not as it must be\n", i);
             return 1;

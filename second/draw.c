@@ -478,10 +478,11 @@ static uint64_t draw_beyond(struct draw *d)
 {
     static const uint64_t beyond[8] = {
         64, 65, 70, 255, 256, 4294967296, 4294967299, UINT64_MAX};
+    uint64_t low = (uint64_t)draw_from(d, 0, 7);
 
     if (draw_chance(d, 50))
-        return beyond[draw_from(d, 0, 7)];
-    return (uint64_t)draw_from(d, 0, 7) | (uint64_t)1 << draw_from(d, 6, 63);
+        return beyond[low];
+    return low | (uint64_t)1 << draw_from(d, 6, 63);
 }
 
 /* An offset in the page; of a write, mostly that of a byte that takes it. */

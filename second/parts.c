@@ -43,20 +43,24 @@ uint32_t part_value(const struct relay *relay, struct part part)
     case SETTING_PART: return setting_value(&relay->setting, part.which);
     case FILL_PART: return relay->fill;
     case NUMBER_PART: return (uint32_t)relay->values[part.which];
+    case PAGE_PART: return part.which == 0 ? relay->flags : relay->mask;
     default: return relay->counters[part.which];
     }
 }
 
-/* Puts a part to another value; fill and counters are single bytes. */
+/* Puts a part to another value; all but setting fields and matched numbers are
+ * single bytes. */
 void change_part(struct relay *relay, struct change change)
 {
     size_t which = change.part.which;
+    uint8_t byte = (uint8_t)change.value;
 
     switch (change.part.kind) {
     case SETTING_PART: change_setting(&relay->setting, which, change.value); break;
-    case FILL_PART: relay->fill = (uint8_t)change.value; break;
+    case FILL_PART: relay->fill = byte; break;
     case NUMBER_PART: relay->values[which] = (int32_t)change.value; break;
-    default: relay->counters[which] = (uint8_t)change.value; break;
+    case PAGE_PART: *(which == 0 ? &relay->flags : &relay->mask) = byte; break;
+    default: relay->counters[which] = byte; break;
     }
 }
 
@@ -70,6 +74,7 @@ int record_same(const struct relay *a, const struct relay *b)
     lay_setting(&a->setting, x);
     lay_setting(&b->setting, y);
     return memcmp(x, y, sizeof x) == 0 && a->fill == b->fill &&
+           a->flags == b->flags && a->mask == b->mask &&
            memcmp(a->values, b->values, sizeof a->values) == 0 &&
            memcmp(a->counters, b->counters, sizeof a->counters) == 0 &&
            memcmp(a->latches, b->latches, sizeof a->latches) == 0;
@@ -177,6 +182,15 @@ static struct change confirm_edge(const struct relay *relay, size_t i)
     return (struct change){{SETTING_PART, 6}, most - (i % 2 != 0 && most > 1)};
 }
 
+/* Flags and interrupt mask at none and some bits, all, one past them, and the
+ * largest. */
+static struct change page_edge(size_t i)
+{
+    static const uint8_t byte[5] = {0, 5, 7, 8, 255};
+
+    return (struct change){{PAGE_PART, (uint8_t)(i / 5)}, byte[i % 5]};
+}
+
 /* Change number i, in order of the kinds. */
 struct change edge_change(struct draw *d, const struct relay *relay, size_t i)
 {
@@ -197,5 +211,8 @@ struct change edge_change(struct draw *d, const struct relay *relay, size_t i)
     i -= 12;
     if (i < 16)
         return confirm_edge(relay, i);
+    i -= 16;
+    if (i < 10)
+        return page_edge(i);
     return number_edge(d, i);
 }

@@ -5,10 +5,12 @@
 
 #include "draw.h"
 
-enum part_kind { SETTING_PART, FILL_PART, NUMBER_PART, COUNTER_PART };
+enum part_kind { SETTING_PART, FILL_PART, NUMBER_PART, COUNTER_PART, PAGE_PART };
+#define PART_KINDS 5
 
 /* One part: of the setting the field at this offset of its block, of the
- * matched numbers that in this place, of the counters that of this system. */
+ * matched numbers that in this place, of the counters that of this system, of
+ * the page's bytes the event flags (0) or the interrupt mask (1). */
 struct part {
     enum part_kind kind;
     uint8_t which;
@@ -31,7 +33,7 @@ struct change take_change(const uint8_t block[BLOCK_BYTES]);
 
 /* Changes over all parts, at the edge of each rule and past it: number i, from
  * 0 on, for a record as it is. */
-#define CHANGES 320
+#define CHANGES 330
 struct change edge_change(struct draw *d, const struct relay *relay, size_t i);
 
 #endif
