@@ -52,7 +52,7 @@ $(BENCH): $(SOURCES)
 $(CALLS): $(SOURCES)
 	rt check calls
 
-# The second program meets the numbers of documents 01 and 02, and turned lists of calls give the same answers.
+# The second program meets the numbers of documents 01 and 02, and lists of calls give the same answers turned, and struck of their page calls.
 second: build/selftest
 	build/selftest
 
@@ -94,8 +94,9 @@ bench: $(BENCH) build/bench
 	@for c in $$(build/bench cases); do build/bench $$c expect > build/bench.out && build/bench $$c input | $(BENCH) | cmp - build/bench.out || \
 		{ echo "bench: case $$c"; exit 1; }; done
 
-# Records of sample and reset calls against the second program: each answer, with counters, latches and refusals; in some, parts of the record are
-# changed between calls, within their rules and past them, so that refusal 12 is met; some come once more with every sample negated.
+# Records of calls against the second program: each answer to a sample, a reset, a read or a write of the register page, with counters, latches, flags and
+# refusals; in some, parts of the record are changed between calls, within their rules and past them, so that refusal 12 is met; some come once more with
+# every sample negated.
 calls: $(CALLS) build/calls
 	build/calls expect > build/calls.out
 	build/calls input | $(CALLS) | cmp - build/calls.out

@@ -2,6 +2,7 @@
 
 ghost use mathlib.Core.Path.{_≡_};
 ghost use lib.ListN.{length};
+use page::Events;
 use relay::Relay;
 use setting::End;
 use setting::Setting;
@@ -199,7 +200,18 @@ fn changed_counter(old: Trip, x: Change) -> Trip {
     t
 }
 
-// The record with a part changed: 0 a setting value, 1 the fill, 2 a matched number, 3 a counter.
+// The flags (0) or the interrupt mask (1) changed.
+fn changed_events(old: Events, x: Change) -> Events {
+    let mut e = old;
+    if x.which == 0 {
+        e.flags = x.byte;
+    } else {
+        e.mask = x.byte;
+    }
+    e
+}
+
+// The record with a part changed: 0 a setting value, 1 the fill, 2 a matched number, 3 a counter, 4 flags or interrupt mask.
 fn changed(old: Relay, x: Change) -> Relay {
     let part = x.part;
     let mut r = old;
@@ -220,9 +232,15 @@ fn changed(old: Relay, x: Change) -> Relay {
         r.window = new;
         return r;
     }
-    let t = r.trip;
-    let new = changed_counter(t, x);
-    r.trip = new;
+    if part == 3 {
+        let t = r.trip;
+        let new = changed_counter(t, x);
+        r.trip = new;
+        return r;
+    }
+    let e = r.events;
+    let new = changed_events(e, x);
+    r.events = new;
     r
 }
 
@@ -281,11 +299,12 @@ fn print_element(e: Element) {
     text::print_flag(e.latch);
 }
 
-// A line of the whole record: the setting values, the fill, counter and latch of each system, and the matched numbers.
+// A line of the whole record: the setting values, the fill, counter and latch of each system, flags and interrupt mask, and the matched numbers.
 pub fn print_record(r: Relay) {
     let v = r.setting;
     let w = r.window;
     let t = r.trip;
+    let e = r.events;
     let values = w.values;
     io::write_all(1, b"record");
     print_setting(v);
@@ -293,6 +312,8 @@ pub fn print_record(r: Relay) {
     print_element(t.a);
     print_element(t.b);
     print_element(t.c);
+    text::print_field(e.flags as u64);
+    text::print_field(e.mask as u64);
     print_numbers(values);
     text::end_line();
 }

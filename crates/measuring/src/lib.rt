@@ -9,7 +9,7 @@ ghost use Rattle.lists.specs.Lists.{upTo};
 ghost use Rattle.matching.specs.Sets.{system};
 ghost use Rattle.characteristic.specs.Characteristic.{starts as startsOf};
 ghost use Rattle.measuring.specs.Window.{series as seriesOf, sums as sumsOf, difference as differenceOf};
-ghost use Rattle.measuring.specs.Measuring.{twiceRestraint, currentsOf, readingsOf};
+ghost use Rattle.measuring.specs.Measuring.{twiceRestraint, start, currentsOf, readingsOf};
 ghost use Rattle.measuring.specs.WindowInput.{PlaceInput, SumInput, Measurable, SystemInput};
 use amplitude::Harmonic;
 use characteristic::Currents;
@@ -129,6 +129,14 @@ fn system_currents(v: Setting, win: &[i32], y: usize) -> Currents
         h2: amplitude::amplitude(u, Harmonic::Second),
         h5: amplitude::amplitude(u, Harmonic::Fifth),
     }
+}
+
+// Whether system y starts.
+pub fn started(v: Setting, win: &[i32], y: usize) -> bool
+    requires { ⌜ SystemInput v (now win) y ⌝ }
+    ensures { λ b. ⌜ b ≡ start v (now (win .entry)) (system y) ⌝ }
+{
+    characteristic::starts(v, system_currents(v, win, y))
 }
 
 fn or(a: bool, b: bool) -> bool

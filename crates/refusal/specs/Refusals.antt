@@ -1,10 +1,10 @@
--- The refusals (document 01, "What the relay declines").
+-- The refusals (document 01, "What the relay declines"; 15 and 16 by document 02, card 2).
 use mathlib.Core.Bool.{Bool, not, cond}
 use mathlib.Core.List.{List, [], _∷_}
 use Prim.Native.Nat.{ℕ}
 use Rattle.lists.specs.Tests.{each}
 use Rattle.refusal.specs.declared.Refusal.{Refusal}
-use Rattle.refusal.specs.declared.Refusal.the-variants.{Length, Check, Mark, Ends, Field, FactorHigh, FactorsLow, Sets, Spare, Reach, Unused, Record, Room, Count}
+use Rattle.refusal.specs.declared.Refusal.the-variants.{Length, Check, Mark, Ends, Field, FactorHigh, FactorsLow, Sets, Spare, Reach, Unused, Record, Room, Count, Offset, Fixed}
 use Rattle.refusal.specs.declared.Verdict.{Verdict}
 use Rattle.refusal.specs.declared.Verdict.the-variants.{Accepted, Refused}
 
@@ -24,6 +24,8 @@ numberOf Unused = 11
 numberOf Record = 12
 numberOf Room = 13
 numberOf Count = 14
+numberOf Offset = 15
+numberOf Fixed = 16
 
 -- ---- what a call gives
 
@@ -86,6 +88,8 @@ offsetsOf Unused = []
 offsetsOf Record = []
 offsetsOf Room = []
 offsetsOf Count = []
+offsetsOf Offset = []
+offsetsOf Fixed = []
 
 abbrev pub offsets : Verdict → List ℕ
 offsets Accepted = []

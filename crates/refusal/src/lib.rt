@@ -3,7 +3,7 @@
 ghost use mathlib.Core.Path.{_≡_};
 ghost use Rattle.refusal.specs.Refusals.{numberOf};
 
-// The refusals, in the order of their numbers 1 to 14.
+// The refusals, in the order of their numbers 1 to 16.
 pub enum Refusal {
     // A block that is not 512 bytes.
     Length,
@@ -33,6 +33,10 @@ pub enum Refusal {
     Room,
     // A set that is not 12 numbers, or a list that is not 0 to 21 whole sets.
     Count,
+    // A read or write of the register page at 64 or beyond.
+    Offset,
+    // A write to a byte of the register page that is not written.
+    Fixed,
 }
 
 // The number of a refusal in the table.
@@ -54,6 +58,8 @@ pub fn number(r: Refusal) -> u8
         Refusal::Record => 12,
         Refusal::Room => 13,
         Refusal::Count => 14,
+        Refusal::Offset => 15,
+        Refusal::Fixed => 16,
     }
 }
 

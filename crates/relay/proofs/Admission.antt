@@ -27,6 +27,6 @@ module _ (r : Relay) where
   unfolding admissible
   inadmissible = hold-not (admissions r)
 
-  pub last-admits : Each T (take 3 (admissions r)) → getD (admissions r) 3 true ≡ admissible r
+  pub last-admits : Each T (take 4 (admissions r)) → getD (admissions r) 4 true ≡ admissible r
   unfolding admissible
-  last-admits h = hold-last (take 3 (admissions r)) h _
+  last-admits h = hold-last (take 4 (admissions r)) h _

@@ -1,22 +1,28 @@
 -- The cases of the calls: a start that is accepted; a set that is declined, by the first row that applies, and one that is accepted, which none does.
-use mathlib.Core.Path.{_≡_, sym, ap, _∙_}
+use mathlib.Core.Path.{_≡_, refl, sym, ap, _∙_}
 use mathlib.Core.Logic.{_≢_}
-use mathlib.Core.Bool.{true, false, not}
-use mathlib.Core.List.{List}
+use mathlib.Core.Bool.{Bool, true, false, not, _||_}
+use mathlib.Core.List.{List, [], _∷_}
 use Prim.Native.Nat.{ℕ}
-use lib.Dec.{T, eqb}
+use native.Mathlib.Omega.{arith}
+use lib.Dec.{T, leb, eqb}
+use borrow.Author.Tests.{leb-true, eqb-true, ne-eqb}
 use lib.IntN.{ℤ}
+use lib.ListN.{getD}
 use Rattle.lists.specs.Tests.{Each}
+use Rattle.lists.proofs.TestLaws.{split, is-true}
 use Rattle.refusal.specs.declared.Verdict.{Verdict}
-use Rattle.refusal.specs.Refusals.{Outcome, gives, declines, firstOf, done, outcomeOf}
+use Rattle.refusal.specs.Refusals.{Outcome, gives, declines, byOutcome, _when_, firstOf, firstRefusal, done, outcomeOf}
 use Rattle.refusal.proofs.Stops.{Passed, Stops, Stopped, stops-declines, passed-gives, none-gives, stopped}
 use Rattle.setting.specs.declared.Setting.{Setting}
 use Rattle.state.specs.declared.Window.{Window}
 use Rattle.relay.specs.declared.Relay.{Relay}
 use Rattle.relay.specs.declared.Sampled.{Sampled}
 use Rattle.relay.specs.declared.Returned.{Returned}
-use Rattle.relay.specs.Record.{fresh, admissible}
-use Rattle.relay.specs.Calls.{setRows, accepted, sampleRows, windowAfter, replyNow, relayNow, sampleReply, Gives, Samples}
+use Rattle.page.specs.Events.{written as writtenEvents}
+use Rattle.relay.specs.Record.{fresh, admissible, withEvents}
+use Rattle.relay.specs.Calls.{setRows, accepted, sampleRows, windowAfter, replyNow, relayNow, refusedRelay, leftAt, sampleReply, Gives, Samples}
+use Rattle.relay.specs.Page.{pageOf, beyond, fixed, readRows, readReply, writeRows, resets, written, writeReply, writeRelay}
 use Rattle.relay.specs.Calls.{resetRows, cleared, resetReply, resetRelay, startReply, Starts}
 
 -- ---- a start that is accepted
@@ -33,7 +39,7 @@ start-accepted {v} s e =
 -- ---- any record
 
 module _ (r : Relay) (xs : List ℤ) {s : Sampled} where
-  pub declined : {n : ℕ} → Stops (sampleRows r xs) n → Gives (declines n) r s → Samples r xs s
+  pub declined : {n : ℕ} → Stops (sampleRows r xs) n → Gives (declines n) (leftAt r n) s → Samples r xs s
   declined {n} p g =
       let o : sampleReply r xs ≡ declines n = stops-declines p _ in
       record { reply = rw o (g .reply); relay = rw o (g .relay) }
@@ -45,14 +51,18 @@ module _ (r : Relay) (xs : List ℤ) {s : Sampled} where
 
 -- ---- an admissible record of the setting v
 
--- a refusal that is not 12
+-- a refusal of 10, 11 or 14
 pub record Other {A : Type 0} (o : Outcome A) : Type 0 where
   pub number : ℕ
   pub is : o ≡ declines number
-  pub not-12 : number ≢ 12
+  pub among : T (eqb number 10 || (eqb number 11 || eqb number 14))
 
-other-12 : {n : ℕ} → T (not (eqb n 12)) → n ≢ 12
-other-12 h e = rw e at h
+pub not-12 : {A : Type 0} {o : Outcome A} (d : Other o) → d .number ≢ 12
+not-12 d e = rw e at (d .among)
+
+-- what it leaves
+pub other-leaves : {A : Type 0} {o : Outcome A} (d : Other o) (r : Relay) → leftAt r (d .number) ≡ refusedRelay r
+other-leaves d r = let among : (eqb (d .number) 10 || (eqb (d .number) 11 || eqb (d .number) 14)) ≡ true = is-true (d .among) in rw among
 
 module _ (v : Setting) (r : Relay) (xs : List ℤ) (adm : admissible r ≡ true) (same : r .setting ≡ v) where
   -- 12 is passed
@@ -67,7 +77,11 @@ module _ (v : Setting) (r : Relay) (xs : List ℤ) (adm : admissible r ≡ true)
   unfolding setRows
   sample-declines e =
       let d : Stopped (setRows v xs) = stopped (setRows v xs) e in
-      record { number = d .number; is = sample-reply ∙ stops-declines (d .stops) _; not-12 = other-12 (d .among (λ n. not (eqb n 12)) tt) }
+      record { number = d .number; is = sample-reply ∙ stops-declines (d .stops) _; among = d .among (λ n. eqb n 10 || (eqb n 11 || eqb n 14)) tt }
+
+-- a write that resets is one to byte 7
+pub resets-at : (o x : ℕ) → resets o x ≡ true → o ≡ 7
+resets-at o x e = eqb-true o 7 (is-true (split (eqb o 7) (eqb x 1) (rw e tt) .0))
 
 module _ (r : Relay) (adm : admissible r ≡ true) where
   pub reset-gives : resetReply r ≡ gives (tt {0})
@@ -76,3 +90,42 @@ module _ (r : Relay) (adm : admissible r ≡ true) where
 
   pub reset-leaves : resetRelay r ≡ cleared r
   reset-leaves = rw reset-gives
+
+  -- ---- the register page: 12 is passed
+
+  pub read-reply : (o : ℕ) → readReply r o ≡ firstOf (beyond o ∷ []) (getD (pageOf r) o 0)
+  unfolding readRows
+  read-reply o = rw adm
+
+  pub write-reply : (o : ℕ) → writeReply r o ≡ firstRefusal (beyond o ∷ fixed o ∷ [])
+  unfolding writeRows
+  write-reply o = rw adm
+
+  -- a write of 1 to byte 7
+  pub write-resets : (o x : ℕ) → resets o x ≡ true → writeRelay r o x ≡ cleared r
+  unfolding written
+  write-resets o x e = rw (write-reply o, e, resets-at o x e)
+
+  -- any other: a byte that is not written changes nothing
+  pub write-leaves : (o x : ℕ) → resets o x ≡ false → writeRelay r o x ≡ withEvents r (writtenEvents o x (r .events))
+  unfolding written
+  write-leaves o x e = rw (write-reply o, e) (by (leb 64 o) refl)
+    where
+      same : eqb o 3 ≡ false → eqb o 4 ≡ false → r ≡ withEvents r (writtenEvents o x (r .events))
+      same p q = rw (p, q)
+
+      left : Outcome (Unit {0}) → Relay
+      left a = byOutcome a (λ n. r) (λ d. withEvents r (writtenEvents o x (r .events)))
+
+      within : (b c : Bool) → eqb o 3 ≡ b → eqb o 4 ≡ c → left (firstRefusal ((16 when not (b || (c || eqb o 7))) ∷ [])) ≡ withEvents r (writtenEvents o x (r .events))
+      within true c p q = refl
+      within false true p q = refl
+      within false false p q = by-seven (eqb o 7)
+        where
+          by-seven : (b : Bool) → left (firstRefusal ((16 when not b) ∷ [])) ≡ withEvents r (writtenEvents o x (r .events))
+          by-seven true = refl
+          by-seven false = same p q
+
+      by : (b : Bool) → leb 64 o ≡ b → left (firstRefusal ((15 when b) ∷ fixed o ∷ [])) ≡ withEvents r (writtenEvents o x (r .events))
+      by true p = let far = leb-true 64 o p in same (ne-eqb o 3 (λ e. omega arith)) (ne-eqb o 4 (λ e. omega arith))
+      by false p = within (eqb o 3) (eqb o 4) refl refl

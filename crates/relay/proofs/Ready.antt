@@ -28,6 +28,7 @@ use Rattle.state.specs.declared.Window.{Window}
 use Rattle.state.proofs.Placed.{Sized, zero-sized, numbers-sized, windowWith-sized}
 use Rattle.relay.specs.declared.Relay.{Relay}
 use Rattle.relay.specs.Record.{admissible}
+use Rattle.relay.specs.CallInput.{Held}
 use Rattle.relay.specs.Calls.{inReach, setRows, accepted, windowAfter}
 use Rattle.relay.proofs.Admission.{is-T, admitted}
 use Rattle.matching.proofs.Total.{matched-bound}
@@ -57,13 +58,31 @@ module _ (v : Setting) (xs : List ℤ) where
       by z l true e = within-≤ (matched-bound v s xs r z (ltb-true z (v .ends) e) l) (omega arith)
       by z l false e = zero-sized
 
-module _ (r : Relay) (xs : List ℤ) (a : admissible r ≡ true) where
+-- numbers as large as a record may hold can be measured
+measurable : (v : Setting) → T (startable v) → (win : List ℤ) → length win ≡ 144 → Each Sized win → Measurable v win
+measurable v sound win long sized =
+    let s = startable-is v sound in
+    record {
+      ends = record { two = s .limits .two; four = s .limits .four };
+      sections = omega (arith, s .basic .most, s .knee .least);
+      window = record { long = long; small = each-get sized zero-sized };
+    }
+
+-- so can the window that a record holds
+pub held-ready : {v : Setting} {w : Window} → Held v w → length (w .values) ≡ 144 → Measurable v (w .values)
+held-ready {v} {w} h long = measurable v (h .sound) (w .values) long (numbers-sized (h .small))
+
+module _ (r : Relay) (a : admissible r ≡ true) where
   pub factors-ready : Limits (r .setting)
   factors-ready = startable-is (r .setting) (admitted r a 0) .limits
 
   pub few-held : r .window .fill ≤ 12
   few-held = leb→le _ _ (admitted r a 1)
 
+  pub held : Held (r .setting) (r .window)
+  held = record { sound = admitted r a 0; few = few-held; small = admitted r a 2 }
+
+module _ (r : Relay) (xs : List ℤ) (a : admissible r ≡ true) where
   -- the numbers of the window with the set filed
   pub window-sized : InReach (r .setting) xs → Each Sized (windowAfter r xs .values)
   window-sized h = windowWith-sized (r .window) (numbers (r .setting) xs) (numbers-sized (admitted r a 2)) (sized-of (r .setting) xs (admitted r a 0) h)
@@ -73,10 +92,4 @@ module _ (r : Relay) (xs : List ℤ) (a : admissible r ≡ true) where
     numbers-ready ks e = record { sound = admitted r a 0; factors = e; twelve = l; reach = reach-of (r .setting) xs (is-T i) }
 
     pub measure-ready : (w : Window) → w ≡ windowAfter r xs → length (w .values) ≡ 144 → Measurable (r .setting) (w .values)
-    measure-ready w e long =
-        let s = startable-is (r .setting) (admitted r a 0) in
-        record {
-          ends = record { two = s .limits .two; four = s .limits .four };
-          sections = omega (arith, s .basic .most, s .knee .least);
-          window = record { long = long; small = rw e (each-get (window-sized (reach-of (r .setting) xs (is-T i))) zero-sized) };
-        }
+    measure-ready w e long = measurable (r .setting) (admitted r a 0) (w .values) long (rw e (window-sized (reach-of (r .setting) xs (is-T i))))

@@ -1,6 +1,8 @@
 -- An accepted set, once it is filed: the answer and the record of a window that fills, and of one that is full.
-use mathlib.Core.Path.{_≡_}
+use mathlib.Core.Path.{_≡_, ap, _∙_}
 use mathlib.Core.Bool.{true, false}
+use Prim.Native.Nat.{ℕ}
+use Rattle.bits.specs.declared.Bits.{Bits}
 use Rattle.refusal.specs.Refusals.{Outcome, gives}
 use Rattle.characteristic.specs.Characteristic.{counts}
 use Rattle.measuring.specs.declared.Readings.{Readings}
@@ -8,21 +10,39 @@ use Rattle.measuring.specs.Measuring.{readingOf, readingsOf}
 use Rattle.state.specs.declared.Element.{Element}
 use Rattle.state.specs.declared.Window.{Window}
 use Rattle.relay.specs.declared.Relay.{Relay}
-use Rattle.state.specs.State.{elementAfter}
-use Rattle.relay.specs.Calls.{Reply, filling, measured, full, replyNow, relayNow}
+use Rattle.state.specs.State.{elementAfter, latchesOf}
+use Rattle.state.proofs.Elements.{latch-kept}
+use Rattle.page.specs.declared.Events.{Events}
+use Rattle.page.specs.Events.{raised}
+use Rattle.page.proofs.EventLaws.{no-bit, not-new, raised-none}
+use Rattle.relay.specs.Record.{admissible}
+use Rattle.relay.specs.Calls.{Reply, filling, measured, full, tripNow, shown, raisedBy, eventsNow, replyNow, relayNow}
+use Rattle.relay.proofs.Admission.{admitted}
 
 module _ (r : Relay) (w : Window) where
   pub filling-reply : full w ≡ false → _≡_ {A = Outcome Reply} (gives (filling (w .fill))) (gives (replyNow r w))
   unfolding replyNow
   filling-reply e = rw e
 
-  pub filling-relay : full w ≡ false → {a b c : Element} →
+  -- no system starts while the window fills, and no latch is new
+  filling-events : full w ≡ false → admissible r ≡ true → eventsNow r w ≡ r .events
+  filling-events e adm = ap (λ (b : Bits). raised b (r .events)) none-new ∙ raised-none (r .events) (admitted r adm 4)
+    where
+      M : ℕ
+      M = r .setting .confirm
+
+      none-new : raisedBy r (shown (r .setting) w) (tripNow r w) ≡ no-bit
+      none-new =
+          let t = r .trip in
+          rw (e, latch-kept M (t .a), latch-kept M (t .b), latch-kept M (t .c), not-new (latchesOf t))
+
+  pub filling-relay : full w ≡ false → admissible r ≡ true → {a b c : Element} →
       a ≡ elementAfter (r .setting .confirm) false (r .trip .a) →
       b ≡ elementAfter (r .setting .confirm) false (r .trip .b) →
       c ≡ elementAfter (r .setting .confirm) false (r .trip .c) →
-      _≡_ {A = Relay} (record { setting = r .setting; window = w; trip = record { a = a; b = b; c = c } }) (relayNow r w)
+      _≡_ {A = Relay} (record { setting = r .setting; window = w; trip = record { a = a; b = b; c = c }; events = r .events }) (relayNow r w)
   unfolding relayNow
-  filling-relay e p q s = rw (p, q, s, e)
+  filling-relay e adm p q s = rw (filling-events e adm, p, q, s, e)
 
   module _ (full-now : full w ≡ true) {m : Readings} (e : m ≡ readingsOf (r .setting) (w .values)) {a b c : Element}
       (p : a ≡ elementAfter (r .setting .confirm) (counts (r .setting) (m .a .d) (m .a .start) (m .a .blocked)) (r .trip .a))
@@ -39,6 +59,7 @@ module _ (r : Relay) (w : Window) where
     unfolding replyNow readingsOf readingOf
     measured-reply = rw (p, q, s, e, full-now)
 
-    pub measured-relay : _≡_ {A = Relay} (record { setting = r .setting; window = w; trip = record { a = a; b = b; c = c } }) (relayNow r w)
+    pub measured-relay : {n : Events} → n ≡ raised (raisedBy r m (record { a = a; b = b; c = c })) (r .events) →
+        _≡_ {A = Relay} (record { setting = r .setting; window = w; trip = record { a = a; b = b; c = c }; events = n }) (relayNow r w)
     unfolding relayNow readingsOf readingOf
-    measured-relay = rw (p, q, s, e, full-now)
+    measured-relay n = rw (n, p, q, s, e, full-now)

@@ -1,6 +1,6 @@
--- Starting, sample and reset (document 01, "Characteristic and trip" and "What the relay declines").
+-- Starting, sample and reset (document 01, "Characteristic and trip" and "What the relay declines"; event flags by 02, card 2).
 use mathlib.Core.Path.{_≡_}
-use mathlib.Core.Bool.{Bool, true, not, _&&_, cond}
+use mathlib.Core.Bool.{Bool, true, false, not, _&&_, _||_, cond}
 use mathlib.Core.List.{List, [], _∷_}
 use Prim.Native.Nat.{ℕ, _*_}
 use lib.Dec.{leb, eqb}
@@ -13,10 +13,11 @@ use Rattle.refusal.specs.Refusals as R
 use Rattle.setting.specs.declared.Setting.{Setting}
 use Rattle.setting.specs.Values.{startRows, fields}
 use Rattle.setting.specs.Calls.{Wrong}
-use Rattle.setting.specs.Limits.{fourFactors}
 pub use Rattle.setting.specs.Worked.{blank}
 use Rattle.matching.specs.Sets.{System, sysA, sysB, sysC, numbers}
+use Rattle.bits.specs.declared.Bits.{Bits}
 use Rattle.state.specs.declared.Element.{Element}
+use Rattle.state.specs.declared.Trip.{Trip}
 use Rattle.state.specs.declared.Window.{Window}
 use Rattle.relay.specs.declared.Relay.{Relay}
 use Rattle.relay.specs.declared.Measure.{Measure}
@@ -25,10 +26,13 @@ use Rattle.relay.specs.declared.Answer.the-variants.{Filling, Measured, 
 use Rattle.relay.specs.declared.Sampled.{Sampled}
 use Rattle.relay.specs.declared.Returned.{Returned}
 use Rattle.characteristic.specs.Characteristic.{counts}
-use Rattle.measuring.specs.WindowInput.{Measurable}
-use Rattle.measuring.specs.Measuring.{differential, start, blocked, readingOf}
-use Rattle.state.specs.State.{elementOf, perSystem, elementAfter, clear, windowWith}
-use Rattle.relay.specs.Record.{fresh, admissible}
+use Rattle.measuring.specs.declared.Readings.{Readings}
+use Rattle.measuring.specs.Measuring.{differential, start, blocked, readingOf, readingsOf}
+use Rattle.state.specs.State.{elementOf, perSystem, elementAfter, clear, latchesOf, windowWith}
+use Rattle.page.specs.declared.Events.{Events}
+use Rattle.page.specs.Events.{new, raised}
+use Rattle.page.specs.Page.{startsOf, nothing}
+use Rattle.relay.specs.Record.{fresh, admissible, withEvents}
 
 -- ---- which sets are accepted
 
@@ -71,17 +75,15 @@ windowAfter r xs = windowWith (r .window) (numbers (r .setting) xs)
 abbrev pub full : Window → Bool
 full w = eqb (w .fill) 12
 
--- a window that holds twelve, and can be measured
-pub record Full (v : Setting) (w : Window) : Type 0 where
-  pub full : full w ≡ true
-  pub measurable : Measurable v (w .values)
-
 -- whether a system counts; at a set that answers Filling none does
 abbrev pub counting : Setting → Window → System → Bool
 counting v w l = full w && counts v (differential v (w .values) l) (start v (w .values) l) (blocked v (w .values) l)
 
 abbrev pub elementNow : Relay → Window → System → Element
 elementNow r w l = elementAfter (r .setting .confirm) (counting (r .setting) w l) (elementOf (r .trip) l)
+
+abbrev pub tripNow : Relay → Window → Trip
+tripNow r w = perSystem (elementNow r w)
 
 -- D, R, H2, H5, start, blocked and latched of a system
 abbrev pub measureNow : Relay → Window → System → Measure
@@ -90,15 +92,41 @@ measureNow r w l = record { reading = readingOf (r .setting) (w .values) l; latc
 unfoldable pub replyNow : Relay → Window → Reply
 replyNow r w = cond (full w) (measured (measureNow r w sysA) (measureNow r w sysB) (measureNow r w sysC)) (filling (w .fill))
 
-unfoldable pub relayNow : Relay → Window → Relay
-relayNow r w = record { setting = r .setting; window = w; trip = perSystem (elementNow r w) }
+-- ---- what is shown after a call, and the flags that a sample call raises (02, card 2)
 
--- the answer of a sample call, and the record that it leaves: as before on a refusal
+-- masks and currents of the last accepted set: zero unless the window is full
+abbrev pub shown : Setting → Window → Readings
+shown v w = cond (full w) (readingsOf v (w .values)) nothing
+
+-- the flags that an accepted set raises, by what it shows and the latches after it: a start or trip is new when its bit was 0 after the call before
+abbrev pub raisedBy : Relay → Readings → Trip → Bits
+raisedBy r m t =
+    record { b0 = new (startsOf (shown (r .setting) (r .window))) (startsOf m); b1 = new (latchesOf (r .trip)) (latchesOf t); b2 = false }
+
+abbrev pub eventsNow : Relay → Window → Events
+eventsNow r w = raised (raisedBy r (shown (r .setting) w) (tripNow r w)) (r .events)
+
+unfoldable pub relayNow : Relay → Window → Relay
+relayNow r w = record { setting = r .setting; window = w; trip = tripNow r w; events = eventsNow r w }
+
+-- a refused set raises flag bit 2, and leaves all else of the record as before
+abbrev pub refusedSet : Bits
+refusedSet = record { b0 = false; b1 = false; b2 = true }
+
+unfoldable pub refusedRelay : Relay → Relay
+refusedRelay r = withEvents r (raised refusedSet (r .events))
+
+-- what is left at a refusal: 10, 11 and 14 are those of a refused set; with 12 the record stays as it was
+abbrev pub leftAt : Relay → ℕ → Relay
+leftAt r number = cond (eqb number 10 || (eqb number 11 || eqb number 14)) (refusedRelay r) r
+
+-- ---- the sample call's answer, and the record that it leaves
+
 abbrev pub sampleReply : Relay → List ℤ → Outcome Reply
 sampleReply r xs = firstOf (sampleRows r xs) (replyNow r (windowAfter r xs))
 
 abbrev pub sampleRelay : Relay → List ℤ → Relay
-sampleRelay r xs = byOutcome (sampleReply r xs) (λ refusal. r) (λ reply. relayNow r (windowAfter r xs))
+sampleRelay r xs = byOutcome (sampleReply r xs) (leftAt r) (λ reply. relayNow r (windowAfter r xs))
 
 -- the sample call's answer in the table's terms
 abbrev pub outcomeOf : Answer → Outcome Reply
@@ -114,18 +142,13 @@ pub record Gives (o : Outcome Reply) (after : Relay) (s : Sampled) : Type 0 wher
 abbrev pub Samples : Relay → List ℤ → Sampled → Type 0
 Samples r xs s = Gives (sampleReply r xs) (sampleRelay r xs) s
 
--- an admissible record, with its factors at hand: what the rest of the call takes once 12 is passed
-pub record InHand (r : Relay) (factors : List ℤ) : Type 0 where
-  pub admitted : admissible r ≡ true
-  pub known : factors ≡ fourFactors (r .setting)
-
--- ---- reset: 12; it clears counters and latches, not windows
+-- ---- reset: 12; it clears counters and latches, not windows; flags and interrupt mask stay
 
 unfoldable pub resetRows : Relay → List Row
 resetRows r = (12 when not (admissible r)) ∷ []
 
 unfoldable pub cleared : Relay → Relay
-cleared r = record { setting = r .setting; window = r .window; trip = perSystem (λ l. clear) }
+cleared r = record { setting = r .setting; window = r .window; trip = perSystem (λ l. clear); events = r .events }
 
 abbrev pub resetReply : Relay → Outcome (Unit {0})
 resetReply r = firstRefusal (resetRows r)

@@ -1,3 +1,5 @@
 pub mod Record
 pub mod Calls
+pub mod CallInput
+pub mod Page
 pub mod Lists

@@ -1,4 +1,4 @@
--- The relay record, and which records are admissible (document 01, "Characteristic and trip" and refusal 12).
+-- The relay record, and which records are admissible (document 01, "Characteristic and trip" and refusal 12; 02, card 2).
 use mathlib.Core.Bool.{Bool}
 use mathlib.Core.List.{List, [], _∷_}
 use lib.Dec.{leb}
@@ -8,6 +8,8 @@ use Rattle.lists.specs.Tests.{hold, each}
 use Rattle.setting.specs.declared.Setting.{Setting}
 use Rattle.setting.specs.Values.{startable}
 use Rattle.state.specs.State.{perSystem, clear, numberWithin, countersWithin}
+use Rattle.page.specs.declared.Events.{Events}
+use Rattle.page.specs.Events.{quiet, within}
 use Rattle.relay.specs.declared.Relay.{Relay}
 
 -- ---- a fresh relay: the values of its setting, empty windows, all else zero or clear
@@ -18,6 +20,7 @@ fresh v =
       setting = v;
       window = record { values = replicate 144 (pos 0); fill = 0 };
       trip = perSystem (λ l. clear);
+      events = quiet;
     }
 
 -- ---- refusal 12: a record is inadmissible where one of these tests fails
@@ -32,7 +35,14 @@ admissions r =
     ∷ each numberWithin (r .window .values)
     -- or a counter above M
     ∷ hold (countersWithin (r .setting .confirm) (r .trip))
+    -- flags or interrupt mask above 7
+    ∷ hold (within (r .events))
     ∷ []
 
 unfoldable pub admissible : Relay → Bool
 admissible r = hold (admissions r)
+
+-- ---- the record with other events, and all else as it was
+
+abbrev pub withEvents : Relay → Events → Relay
+withEvents r e = record { setting = r .setting; window = r .window; trip = r .trip; events = e }

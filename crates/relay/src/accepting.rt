@@ -27,7 +27,10 @@ pub fn admissible(r: Relay) -> bool
     if !state::numbers_within(&values) {
         return false;
     }
-    state::counters_within(v.confirm, t)
+    if !state::counters_within(v.confirm, t) {
+        return false;
+    }
+    page::within(r.events)
 }
 
 // No sample beyond 32,000.

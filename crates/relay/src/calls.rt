@@ -1,18 +1,22 @@
 // The relay's calls: start, sample and reset. Sample and reset take the record by value and hand it back beside the answer.
 
 ghost use mathlib.Core.Path.{_≡_};
-ghost use mathlib.Core.Bool.{false};
+ghost use mathlib.Core.Bool.{cond};
+ghost use Rattle.refusal.specs.declared.Verdict.the-variants.{Refused};
 ghost use Rattle.refusal.specs.Refusals.{gives, declines, numberOf};
 ghost use Rattle.characteristic.specs.Characteristic.{counts as countsOf};
 ghost use Rattle.state.specs.State.{elementAfter};
-ghost use Rattle.relay.specs.Calls.{full, Full, replyNow, relayNow, Gives, InHand, Samples, Resets, Starts};
+ghost use Rattle.relay.specs.Calls.{replyNow, relayNow, refusedRelay, cleared as clearedOf, Gives, Samples, Resets, Starts};
+ghost use Rattle.relay.specs.CallInput.{FillingNow, FullNow, InHand};
 use crate::Answer;
 use crate::Measure;
 use crate::Relay;
 use crate::Returned;
 use crate::Sampled;
 use crate::accepting;
+use crate::noting;
 use crate::starting;
+use bits::Bits;
 use measuring::Reading;
 use refusal::Refusal;
 use refusal::Verdict;
@@ -34,7 +38,7 @@ fn element_now(v: Setting, m: Reading, e: Element) -> Element
 
 // A set filed in a window that is not full yet: the number held, counters cleared.
 fn filling(r: Relay, w: Window) -> Sampled
-    requires { ⌜ full w ≡ false ⌝ }
+    requires { ⌜ FillingNow r w ⌝ }
     ensures { λ s. ⌜ Gives (gives (replyNow r w)) (relayNow r w) s ⌝ }
 {
     let v = r.setting;
@@ -55,7 +59,7 @@ fn filling(r: Relay, w: Window) -> Sampled
 
 // A set filed in a window that is full: the three systems measured, counters and latches after it.
 fn measured(r: Relay, w: Window) -> Sampled
-    requires { ⌜ Full (r .setting) w ⌝ }
+    requires { ⌜ FullNow r w ⌝ }
     ensures { λ s. ⌜ Gives (gives (replyNow r w)) (relayNow r w) s ⌝ }
 {
     let v = r.setting;
@@ -69,6 +73,12 @@ fn measured(r: Relay, w: Window) -> Sampled
     let b = element_now(v, in_b, t.b);
     let c = element_now(v, in_c, t.c);
     let trip = Trip { a: a, b: b, c: c };
+    let kept = r.events;
+    let events = if noting::nothing_new(m, t, trip) {
+        kept
+    } else {
+        noting::events_now(r, m, trip)
+    };
     let of_a = Measure {
         reading: in_a,
         latched: a.latch,
@@ -84,19 +94,34 @@ fn measured(r: Relay, w: Window) -> Sampled
     let mut relay = r;
     relay.window = w;
     relay.trip = trip;
+    relay.events = events;
     Sampled {
         answer: Answer::Measured(of_a, of_b, of_c),
         relay: relay,
     }
 }
 
-// A refusal of a sample call, with the record as before.
-fn refused(r: Relay, why: Refusal) -> Sampled
-    ensures { λ s. ⌜ Gives (declines (numberOf why)) r s ⌝ }
+// A refusal of a sample call, with the record as before but for the flag of a refused set, where it is one.
+fn refused(r: Relay, why: Refusal, set: bool) -> Sampled
+    ensures { λ s. ⌜ Gives (declines (numberOf why)) (cond set (refusedRelay r) r) s ⌝ }
 {
+    if !set {
+        return Sampled {
+            answer: Answer::Refused(why),
+            relay: r,
+        };
+    }
+    let flag = Bits {
+        b0: false,
+        b1: false,
+        b2: true,
+    };
+    let events = page::raised(flag, r.events);
+    let mut left = r;
+    left.events = events;
     Sampled {
         answer: Answer::Refused(why),
-        relay: r,
+        relay: left,
     }
 }
 
@@ -106,14 +131,14 @@ pub fn sample_admitted(r: Relay, factors: [i64; 4], set: &[i16]) -> Sampled
     ensures { λ s. ⌜ Samples r (now (set .entry)) s ⌝ }
 {
     if set.len() != 12 {
-        return refused(r, Refusal::Count);
+        return refused(r, Refusal::Count, true);
     }
     if !accepting::in_reach(set) {
-        return refused(r, Refusal::Reach);
+        return refused(r, Refusal::Reach, true);
     }
     let v = r.setting;
     if !accepting::unused_zero(v.ends, set) {
-        return refused(r, Refusal::Unused);
+        return refused(r, Refusal::Unused, true);
     }
     let old = r.window;
     let w = state::place(old, matching::numbers(v, factors, set));
@@ -121,6 +146,34 @@ pub fn sample_admitted(r: Relay, factors: [i64; 4], set: &[i16]) -> Sampled
         return filling(r, w);
     }
     measured(r, w)
+}
+
+// A refusal of a reset or a write, with the record as before.
+pub fn declined(r: Relay, why: Refusal) -> Returned
+    ensures { λ s. ⌜ s ≡ record { verdict = Refused why; relay = r } ⌝ }
+{
+    Returned {
+        verdict: Verdict::Refused(why),
+        relay: r,
+    }
+}
+
+// The record with counters and latches cleared.
+pub fn cleared(r: Relay) -> Relay
+    ensures { λ s. ⌜ s ≡ clearedOf r ⌝ }
+{
+    let clear = Element {
+        count: 0,
+        latch: false,
+    };
+    let trip = Trip {
+        a: clear,
+        b: clear,
+        c: clear,
+    };
+    let mut done = r;
+    done.trip = trip;
+    done
 }
 
 impl Relay {
@@ -140,7 +193,7 @@ impl Relay {
         ensures { λ s. ⌜ Samples self (now (set .entry)) s ⌝ }
     {
         if !accepting::admissible(self) {
-            return refused(self, Refusal::Record);
+            return refused(self, Refusal::Record, false);
         }
         let v = self.setting;
         sample_admitted(self, setting::factors::factors(v), set)
@@ -151,25 +204,11 @@ impl Relay {
         ensures { λ s. ⌜ Resets self s ⌝ }
     {
         if !accepting::admissible(self) {
-            return Returned {
-                verdict: Verdict::Refused(Refusal::Record),
-                relay: self,
-            };
+            return declined(self, Refusal::Record);
         }
-        let clear = Element {
-            count: 0,
-            latch: false,
-        };
-        let trip = Trip {
-            a: clear,
-            b: clear,
-            c: clear,
-        };
-        let mut relay = self;
-        relay.trip = trip;
         Returned {
             verdict: Verdict::Accepted,
-            relay: relay,
+            relay: cleared(self),
         }
     }
 }

@@ -1,10 +1,13 @@
-// The relay: the record, and its start, sample and reset calls.
+// The relay: the record, its start, sample and reset calls, and its register page, read and written a byte at a time.
 
 pub mod accepting;
 pub mod calls;
+pub mod noting;
+pub mod paging;
 pub mod starting;
 
 use measuring::Reading;
+use page::Events;
 use refusal::Refusal;
 use refusal::Verdict;
 use setting::Setting;
@@ -16,6 +19,7 @@ pub struct Relay {
     pub setting: Setting,
     pub window: Window,
     pub trip: Trip,
+    pub events: Events,
 }
 
 // What a Measured answer says of a system.
@@ -36,8 +40,19 @@ pub struct Sampled {
     pub relay: Relay,
 }
 
-// The answer to a start or a reset, and the record that comes back: blank where a start is refused.
+// The answer to a start, a reset or a write, and the record that comes back: blank where a start is refused.
 pub struct Returned {
     pub verdict: Verdict,
+    pub relay: Relay,
+}
+
+// The answer to a read of the register page: the byte, or the refusal.
+pub enum PageByte {
+    Byte(u8),
+    Refused(Refusal),
+}
+
+pub struct PageRead {
+    pub answer: PageByte,
     pub relay: Relay,
 }

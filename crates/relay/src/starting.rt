@@ -5,6 +5,7 @@ ghost use Rattle.refusal.specs.Refusals.{byOutcome, outcomeOf};
 ghost use Rattle.relay.specs.Record.{fresh as freshOf};
 ghost use Rattle.relay.specs.Calls.{blank as blankOf};
 use crate::Relay;
+use page::Events;
 use refusal::Verdict;
 use setting::End;
 use setting::Setting;
@@ -72,9 +73,11 @@ pub fn fresh(v: Setting) -> Relay
         b: clear,
         c: clear,
     };
+    let events = Events { flags: 0, mask: 0 };
     Relay {
         setting: v,
         window: window,
         trip: trip,
+        events: events,
     }
 }

@@ -3,6 +3,7 @@ use mathlib.Core.Path.{_≡_, refl, ap, _∙_}
 use mathlib.Core.List.{List, [], _∷_, _++_, flatten}
 use lib.Dec.{T}
 use lib.IntN.{ℤ}
+use lib.ListN.{getD}
 use Rattle.lists.specs.Tests.{Each, none, _&_}
 use Rattle.lists.proofs.TestLaws.{each-append}
 use Rattle.lists.proofs.Places.{length-upTo}
@@ -11,14 +12,16 @@ use Rattle.setting.specs.declared.Setting.{Setting}
 use Rattle.setting.specs.Values.{startable}
 use Rattle.matching.specs.Sets.{numbers}
 use Rattle.state.specs.declared.Window.{Window}
+use Rattle.page.specs.Page.{page}
 use Rattle.relay.specs.declared.Relay.{Relay}
 use Rattle.relay.specs.Record.{fresh}
-use Rattle.relay.specs.Calls.{setRows, windowAfter, replyNow, relayNow, cleared}
+use Rattle.relay.specs.Calls.{setRows, windowAfter, replyNow, shown, relayNow, refusedRelay, cleared}
+use Rattle.relay.specs.Page.{beyond}
 use Rattle.relay.specs.Lists.{Call, run}
-use Rattle.relay.proofs.Cases.{sample-reply, reset-gives}
-use Rattle.relay.proofs.Kept.{Valid, Step, files, declines, clears}
+use Rattle.relay.proofs.Cases.{sample-reply, reset-gives, read-reply, write-reply}
+use Rattle.relay.proofs.Kept.{Valid, Step, files, declines, clears, reads, resets-by-page, writes}
 use Rattle.relay.proofs.Induction.{Invariant, along, last, any-call}
-use Rattle.stability.specs.Lists.{filing, filed, last12, windowOf, SettingKept, WindowFiled, Answered, ResetAccepted}
+use Rattle.stability.specs.Lists.{filing, filed, last12, windowOf, SettingKept, WindowFiled, Answered, ResetAccepted, ReadAnswered, WriteAnswered}
 use Rattle.stability.proofs.Filing.{Twelve, filed-window}
 
 pub record Filed (ws : List (List ℤ)) (r : Relay) : Type 0 where
@@ -35,10 +38,13 @@ module _ {v : Setting} {ws : List (List ℤ)} {r : Relay} (h : Valid v r) (f : F
   window-now xs = rw (h .same, f .window) (filed-window (f .twelves) (numbers v xs))
 
   pub filed-kept : {s : Relay} {c : Call} → Step v r c s → Filed (filing v ws c) s
-  unfolding relayNow cleared numbers
+  unfolding relayNow refusedRelay cleared numbers
   filed-kept (files {xs = xs} e o) = rw e (record { window = window-now xs; twelves = each-append (f .twelves) (length-upTo 12 _ & none) })
-  filed-kept (declines e o) = rw e f
+  filed-kept (declines e o) = rw e (record { window = f .window; twelves = f .twelves })
   filed-kept (clears o) = record { window = f .window; twelves = f .twelves }
+  filed-kept (reads o) = f
+  filed-kept (resets-by-page e o) = record { window = f .window; twelves = f .twelves }
+  filed-kept (writes e o) = record { window = f .window; twelves = f .twelves }
 
 abbrev invariant : (v : Setting) → Invariant v (λ c. Unit {0})
 invariant v =
@@ -65,3 +71,16 @@ answered v s cs xs =
 pub reset-accepted : ResetAccepted
 unfolding ResetAccepted
 reset-accepted v s cs = reset-gives (run (fresh v) cs) (after-run v s cs .0 .ok)
+
+pub read-answered : ReadAnswered
+unfolding ReadAnswered
+read-answered v s cs o =
+    let (h, f) = after-run v s cs in
+    let r = run (fresh v) cs in
+    read-reply r (h .ok) o
+    ∙ ap (λ (w : Setting). firstOf (beyond o ∷ []) (getD (page (r .trip) (shown w (r .window)) (r .events)) o 0)) (h .same)
+    ∙ ap (λ (w : Window). firstOf (beyond o ∷ []) (getD (page (r .trip) (shown v w) (r .events)) o 0)) (f .window)
+
+pub write-answered : WriteAnswered
+unfolding WriteAnswered
+write-answered v s cs o = write-reply (run (fresh v) cs) (after-run v s cs .0 .ok) o

@@ -1,12 +1,12 @@
 -- Demand 3. The sets of a healthy bank are filed with sums over the ends within 13·E. From a window of twelve such sets D is at most 45, 69 or 91, so
 -- nothing starts and nothing counts, whatever R, H2, H5 and the blocking are. The invariant: the window is that of the last twelve sets filed
--- (Demand2.antt), each set filed is close, and no latch is set. And from demand 3, that a list of calls which trips is not that of a healthy bank.
-use mathlib.Core.Path.{_≡_, _∙_, refl, sym}
-use mathlib.Core.Bool.{false, Bool, true, cond, true≢false}
-use mathlib.Core.List.{List, []}
+-- (Demand2.antt), each set filed is close, and no latch is set, nor a flag of a start or trip. And from demand 3, that a list of calls which trips is not that of a healthy bank.
+use mathlib.Core.Path.{_≡_, _∙_, refl, sym, ap}
+use mathlib.Core.Bool.{false, Bool, true, not, _||_, cond, true≢false}
+use mathlib.Core.List.{List, [], _∷_}
 use Prim.Native.Nat.{ℕ, _+_, _*_, _/_, _%_, _≤_, _<_}
 use native.Mathlib.Omega.{arith}
-use lib.Dec.{T}
+use lib.Dec.{T, leb, eqb}
 use borrow.Author.Tests.{lt-ltb, eqb-true}
 use lib.IntN.{ℤ, pos}
 use lib.ListN.{length}
@@ -18,6 +18,7 @@ use Rattle.integer.proofs.Laws.{within-is, within-≤}
 use Rattle.integer.proofs.SumLaws.{sum-same, sum-within}
 use Rattle.lists.proofs.TestLaws.{each-get, each-append}
 use Rattle.lists.proofs.Places.{getD-upTo, flat-at}
+use Rattle.refusal.specs.Refusals.{_when_, firstOf, firstRefusal}
 use Rattle.setting.specs.declared.Setting.{Setting}
 use Rattle.setting.specs.Values.{startable}
 use Rattle.setting.specs.Worked.{plain}
@@ -30,23 +31,32 @@ use Rattle.characteristic.specs.Characteristic.{counts}
 use Rattle.characteristic.specs.Bound.{QuietBound}
 use Rattle.characteristic.proofs.Bound.{quiet-bound}
 use Rattle.measuring.specs.Window.{sums}
-use Rattle.measuring.specs.Measuring.{differential, start, blocked, readingOf}
+use Rattle.measuring.specs.Measuring.{differential, start, blocked, readingOf, readingsOf}
 use Rattle.state.specs.declared.Window.{Window}
-use Rattle.state.specs.State.{elementOf, perSystem, clear}
+use Rattle.state.specs.State.{elementOf, perSystem, clear, latchesOf}
+use Rattle.bits.specs.declared.Bits.{Bits}
+use Rattle.bits.specs.Bits.{bitsOf, either}
+use Rattle.page.specs.declared.Events.{Events}
+use Rattle.page.specs.Events.{new, written}
+use Rattle.page.specs.Page.{startsOf, nothing}
+use Rattle.page.proofs.EventLaws.{no-bit, raised-flags, written-lower}
 use Rattle.state.proofs.Elements.{per-system, no-latch-after}
-use Rattle.relay.specs.Calls.{accepted, full, counting, elementNow, measureNow, replyNow, relayNow, cleared, filling, measured}
+use Rattle.relay.specs.Calls.{accepted, full, counting, elementNow, tripNow, measureNow, replyNow, shown, raisedBy, eventsNow, relayNow, refusedSet, refusedRelay}
+use Rattle.relay.specs.Calls.{cleared, filling, measured}
+use Rattle.relay.specs.Page.{beyond, fixed}
 use Rattle.matching.proofs.Total.{total-bound}
 use Rattle.relay.proofs.Ready.{reach}
 use Rattle.relay.specs.declared.Measure.{Measure}
 use Rattle.relay.specs.declared.Relay.{Relay}
-use Rattle.relay.specs.Record.{fresh}
+use Rattle.relay.specs.Record.{fresh, withEvents}
 use Rattle.relay.specs.Lists.{Call}
 use Rattle.relay.proofs.Admission.{is-T}
-use Rattle.relay.proofs.Kept.{Valid, Step, files, declines, clears}
+use Rattle.relay.proofs.Kept.{Valid, Step, files, declines, clears, reads, resets-by-page, writes}
+use Rattle.relay.proofs.Cases.{not-12}
 use Rattle.relay.proofs.Induction.{Invariant, along, last, every}
 use Rattle.stability.specs.Lists.{last12, windowOf, filing}
 use Rattle.stability.proofs.Filing.{Twelve, each-last12}
-use Rattle.stability.specs.Stability.{HealthyCall, Calm, CalmReply, CalmCall, NoLatch, Stability}
+use Rattle.stability.specs.Stability.{HealthyCall, Calm, CalmReply, CalmCall, Without12, Still, Stability}
 use Rattle.stability.specs.Example.{latchAfter, fault-trips, FaultUnhealthy}
 use Rattle.stability.proofs.Demand2.{Filed, filed-fresh, window-now, filed-kept}
 
@@ -57,7 +67,7 @@ Close v ns = (l : System) → sum (v .ends) (λ z. numberAt ns z l) within (13 *
 record Quiet (v : Setting) (ws : List (List ℤ)) (r : Relay) : Type 0 where
   filed : Filed ws r
   close : Each (Close v) ws
-  no-latch : NoLatch r
+  still : Still r
 
 -- the window that holds the last twelve
 abbrev held : List (List ℤ) → Window
@@ -120,7 +130,7 @@ module _ (v : Setting) (s : T (startable v)) where
           quiet-bound v (g .basic .least) (g .high .least) _ few _ (blocked v (held ws .values) l)
 
     -- a set filed among them: no system counts, whether or not the window is full
-    module _ {r : Relay} (h : Valid v r) (no-latch : NoLatch r) where
+    module _ {r : Relay} (h : Valid v r) (still : Still r) where
       counting-no : (l : System) → counting v (held ws) l ≡ false
       counting-no l = by (full (held ws)) refl
         where
@@ -129,11 +139,35 @@ module _ (v : Setting) (s : T (startable v)) where
           by true e = rw (e, quiet-system e l .1)
 
       latch-no : (l : System) → elementNow r (held ws) l .latch ≡ false
-      latch-no l = rw (h .same) (no-latch-after (v .confirm) (elementOf (r .trip) l) (counting-no l) (no-latch l))
+      latch-no l = rw (h .same) (no-latch-after (v .confirm) (elementOf (r .trip) l) (counting-no l) (still .no-latch l))
 
-      latches-no : NoLatch (relayNow r (held ws))
+      -- no start is new, and no trip
+      starts-none : startsOf (shown (r .setting) (held ws)) ≡ no-bit
+      unfolding readingsOf readingOf
+      starts-none = rw (h .same) (by (full (held ws)) refl)
+        where
+          by : (b : Bool) → full (held ws) ≡ b → startsOf (cond b (readingsOf v (held ws .values)) nothing) ≡ no-bit
+          by false e = refl
+          by true e = λ i. record { b0 = quiet-system e sysA .0 i; b1 = quiet-system e sysB .0 i; b2 = quiet-system e sysC .0 i }
+
+      latches-none : latchesOf (tripNow r (held ws)) ≡ no-bit
+      latches-none = λ i. record { b0 = latch-no sysA i; b1 = latch-no sysB i; b2 = latch-no sysC i }
+
+      none-new : raisedBy r (shown (r .setting) (held ws)) (tripNow r (held ws)) ≡ no-bit
+      none-new =
+          λ i. record { b0 = new (startsOf (shown (r .setting) (r .window))) (starts-none i); b1 = new (latchesOf (r .trip)) (latches-none i); b2 = false }
+
+      flags-now : bitsOf (eventsNow r (held ws) .flags) ≡ either (bitsOf (r .events .flags)) no-bit
+      flags-now = raised-flags _ (r .events) ∙ ap (λ (b : Bits). either (bitsOf (r .events .flags)) b) none-new
+
+      still-now : Still (relayNow r (held ws))
       unfolding relayNow
-      latches-no = per-system (λ e. e .latch ≡ false) (elementNow r (held ws)) latch-no
+      still-now =
+          record {
+            no-latch = per-system (λ e. e .latch ≡ false) (elementNow r (held ws)) latch-no;
+            no-start-flag = ap (λ (b : Bits). b .b0) flags-now ∙ rw (still .no-start-flag);
+            no-trip-flag = ap (λ (b : Bits). b .b1) flags-now ∙ rw (still .no-trip-flag);
+          }
 
       calm : full (held ws) ≡ true → (l : System) → Calm v (measureNow r (held ws) l)
       unfolding readingOf
@@ -152,28 +186,69 @@ module _ (v : Setting) (s : T (startable v)) where
 
   -- ---- each call, and the list
 
-  keeps : {ws : List (List ℤ)} {r t : Relay} {c : Call} → Valid v r → Quiet v ws r → HealthyCall v c → Step v r c t → Quiet v (filing v ws c) t × CalmCall v r c
+  -- events of which no flag is raised but that of a refused set
+  still-events : {r : Relay} {e : Events} → Still r → (bitsOf (e .flags) .b0 ≡ false) × (bitsOf (e .flags) .b1 ≡ false) → Still (withEvents r e)
+  still-events q (start, trip) = record { no-latch = q .no-latch; no-start-flag = start; no-trip-flag = trip }
+
+  still-refused : {r : Relay} → Still r → Still (refusedRelay r)
+  unfolding refusedRelay
+  still-refused {r} q =
+      let flags = raised-flags refusedSet (r .events) in
+      still-events q (ap (λ (b : Bits). b .b0) flags ∙ rw (q .no-start-flag), ap (λ (b : Bits). b .b1) flags ∙ rw (q .no-trip-flag))
+
+  still-written : {r : Relay} → Still r → (o x : ℕ) → Still (withEvents r (written o x (r .events)))
+  still-written {r} q o x =
+      let flags = written-lower o x (r .events) .is in
+      still-events q (ap (λ (b : Bits). b .b0) flags ∙ rw (q .no-start-flag), ap (λ (b : Bits). b .b1) flags ∙ rw (q .no-trip-flag))
+
+  still-cleared : {r : Relay} → Still r → Still (cleared r)
   unfolding cleared
+  still-cleared q = record { no-latch = none-latched; no-start-flag = q .no-start-flag; no-trip-flag = q .no-trip-flag }
+
+  -- a read or write is not declined with 12
+  read-calm : (o b : ℕ) → Without12 (λ n. Unit {0}) (firstOf (beyond o ∷ []) b)
+  read-calm o b = by (leb 64 o)
+    where
+      by : (t : Bool) → Without12 (λ n. Unit {0}) (firstOf ((15 when t) ∷ []) b)
+      by true = λ e. omega arith
+      by false = tt
+
+  write-calm : (o : ℕ) → Without12 (λ n. Unit {0}) (firstRefusal (beyond o ∷ fixed o ∷ []))
+  write-calm o = by (leb 64 o) (not (eqb o 3 || (eqb o 4 || eqb o 7)))
+    where
+      by : (t u : Bool) → Without12 (λ n. Unit {0}) (firstRefusal ((15 when t) ∷ (16 when u) ∷ []))
+      by true u = λ e. omega arith
+      by false true = λ e. omega arith
+      by false false = tt
+
+  keeps : {ws : List (List ℤ)} {r t : Relay} {c : Call} → Valid v r → Quiet v ws r → HealthyCall v c → Step v r c t → Quiet v (filing v ws c) t × CalmCall v r c
   keeps h q hc (files {xs = xs} e o) =
       let now = window-now h (q .filed) xs in
       let filed = rw e at (filed-kept h (q .filed) (files e o)) in
       let close = each-append (q .close) (numbers-close xs (is-T e) (hc (is-T e)) & none) in (
-        rw e (record { filed = filed; close = close; no-latch = rw now (latches-no (filed .twelves) close h (q .no-latch)) }),
-        rw (o, now) (calm-reply (filed .twelves) close h (q .no-latch)),
+        rw e (record { filed = filed; close = close; still = rw now (still-now (filed .twelves) close h (q .still)) }),
+        rw (o, now) (calm-reply (filed .twelves) close h (q .still)),
       )
-  keeps h q hc (declines e o) = (rw e q, rw (o .is) (o .not-12))
-  keeps h q hc (clears o) = (record { filed = filed-kept h (q .filed) (clears o); close = q .close; no-latch = none-latched }, rw o tt)
+  keeps h q hc (declines e o) =
+      let filed = rw e at (filed-kept h (q .filed) (declines e o)) in
+      (rw e (record { filed = filed; close = q .close; still = still-refused (q .still) }), rw (o .is) (not-12 o))
+  keeps h q hc (clears o) = (record { filed = filed-kept h (q .filed) (clears o); close = q .close; still = still-cleared (q .still) }, rw o tt)
+  keeps h q hc (reads {o = o} a) = (q, rw a (read-calm o _))
+  keeps h q hc (resets-by-page {o = o} {x = x} e a) =
+      (record { filed = filed-kept h (q .filed) (resets-by-page {x = x} e a); close = q .close; still = still-cleared (q .still) }, rw a (write-calm o))
+  keeps h q hc (writes {o = o} {x = x} e a) =
+      (record { filed = filed-kept h (q .filed) (writes {x = x} e a); close = q .close; still = still-written (q .still) o x }, rw a (write-calm o))
 
   quiet-fresh : Quiet v [] (fresh v)
-  unfolding fresh
-  quiet-fresh = record { filed = filed-fresh v; close = none; no-latch = none-latched }
+  unfolding fresh bitsOf
+  quiet-fresh = record { filed = filed-fresh v; close = none; still = record { no-latch = none-latched; no-start-flag = refl; no-trip-flag = refl } }
 
   abbrev invariant : Invariant v (HealthyCall v)
   invariant = record { State = _; start = []; next = filing v; Inv = Quiet v; Shown = λ ws. CalmCall v; first = quiet-fresh; keeps = keeps }
 
 pub stability : Stability
 unfolding Stability
-stability v s cs hs = every (invariant v s) (λ ws r q. q .no-latch) (λ ws r c k. k) (along (invariant v s) s hs)
+stability v s cs hs = every (invariant v s) (λ ws r q. q .still) (λ ws r c k. k) (along (invariant v s) s hs)
 
 pub fault-unhealthy : FaultUnhealthy
 unfolding FaultUnhealthy latchAfter
@@ -181,5 +256,5 @@ fault-unhealthy hs =
     let s : startable plain ≡ true = cc fault-trips in
     let trips : latchAfter sysA ≡ true = cc fault-trips in
     let I = invariant plain (is-T s) in
-    let none : latchAfter sysA ≡ false = last I (along I (is-T s) hs) .1 .no-latch sysA in
+    let none : latchAfter sysA ≡ false = last I (along I (is-T s) hs) .1 .still .no-latch sysA in
     true≢false (sym trips ∙ none)

@@ -2,6 +2,8 @@
 mod Filing
 mod Demand2
 mod TripLaws
+mod FlagLaws
+mod Apartness
 mod Demand3
 mod Through
 mod Turned

@@ -13,29 +13,35 @@ use Rattle.state.proofs.Elements.{element-of}
 use Rattle.state.proofs.RowLaws.{latched-in-a-row, counted-in-a-row}
 use Rattle.relay.specs.declared.Relay.{Relay}
 use Rattle.relay.specs.Record.{fresh}
-use Rattle.relay.specs.Calls.{windowAfter, elementNow, relayNow, cleared}
+use Rattle.relay.specs.Calls.{windowAfter, elementNow, relayNow, refusedRelay, cleared}
 use Rattle.relay.specs.Lists.{Call}
-use Rattle.relay.proofs.Kept.{Valid, Step, files, declines, clears}
+use Rattle.relay.proofs.Kept.{Valid, Step, files, declines, clears, reads, resets-by-page, writes}
 use Rattle.relay.proofs.Induction.{Invariant, along, last, any-call}
 use Rattle.stability.specs.Trips.{Trail, trailing, trail, elementAt, Latched, Counted}
 use Rattle.stability.proofs.Demand2.{Filed, filed-fresh, window-now, filed-kept}
 
 module _ (v : Setting) (l : System) where
-  record Traced (t : Trail) (r : Relay) : Type 0 where
-    filed : Filed (t .sets) r
-    element : elementOf (r .trip) l ≡ afterSets (v .confirm) (t .counted)
+  pub record Traced (t : Trail) (r : Relay) : Type 0 where
+    pub filed : Filed (t .sets) r
+    pub element : elementOf (r .trip) l ≡ afterSets (v .confirm) (t .counted)
 
-  traced-fresh : Traced (trail v l []) (fresh v)
+  pub traced-fresh : Traced (trail v l []) (fresh v)
   unfolding fresh
   traced-fresh = record { filed = filed-fresh v; element = element-of (λ l. clear) l }
 
   element-kept : {t : Trail} {r s : Relay} {c : Call} → Valid v r → Traced t r → Step v r c s →
       elementOf (s .trip) l ≡ afterSets (v .confirm) (trailing v l t c .counted)
-  unfolding relayNow cleared
+  unfolding relayNow refusedRelay cleared
   element-kept {r = r} h k (files {xs = xs} e o) =
       rw (e, element-of (elementNow r (windowAfter r xs)) l, window-now h (k .filed) xs, h .same, k .element)
   element-kept h k (declines e o) = rw e (k .element)
   element-kept h k (clears o) = element-of (λ l. clear) l
+  element-kept h k (reads o) = k .element
+  element-kept h k (resets-by-page e o) = rw e (element-of (λ l. clear) l)
+  element-kept h k (writes e o) = rw e (k .element)
+
+  pub traced-kept : {t : Trail} {r s : Relay} {c : Call} → Valid v r → Traced t r → Step v r c s → Traced (trailing v l t c) s
+  traced-kept h k st = record { filed = filed-kept h (k .filed) st; element = element-kept h k st }
 
   abbrev invariant : Invariant v (λ c. Unit {0})
   invariant =
@@ -46,7 +52,7 @@ module _ (v : Setting) (l : System) where
         Inv = Traced;
         Shown = λ t r c. Unit {0};
         first = traced-fresh;
-        keeps = λ h k p st. (record { filed = filed-kept h (k .filed) st; element = element-kept h k st }, tt);
+        keeps = λ h k p st. (traced-kept h k st, tt);
       }
 
   element-after : T (startable v) → (cs : List Call) → elementAt v l cs ≡ afterSets (v .confirm) (trail v l cs .counted)

@@ -1,12 +1,12 @@
 -- Turning (02, card 1). A record is turned where its matched numbers are negated. A turned record files the turned set as the record files the set: the
 -- matched numbers of the set are negated (Negated.antt of matching), and what is measured of the window is the same (that of measuring). So a call keeps
 -- the record turned, and answers alike; a fresh record is turned to itself.
-use mathlib.Core.Path.{_≡_, refl, ap, sym, subst}
-use mathlib.Core.Bool.{Bool, true, false, _&&_, cond}
+use mathlib.Core.Path.{_≡_, refl, ap, sym, subst, _∙_}
+use mathlib.Core.Bool.{Bool, true, false, _&&_, _||_, cond}
 use mathlib.Core.List.{List, [], _∷_, _++_, map, map-append}
 use Prim.Native.Nat.{ℕ, zero, suc, _+_, _*_}
 use native.Mathlib.Omega.{arith}
-use lib.Dec.{leb, ltb}
+use lib.Dec.{leb, ltb, eqb}
 use lib.IntN.{ℤ, pos, negsuc, negℤ, natAbs}
 use lib.ListN.{take, drop, length-map}
 use Rattle.integer.specs.Within.{eqZ}
@@ -23,15 +23,18 @@ use Rattle.amplitude.specs.Amplitude.{order}
 use Rattle.amplitude.proofs.Negated.{cycle-negated}
 use Rattle.characteristic.specs.Characteristic.{counts}
 use Rattle.measuring.specs.declared.Reading.{Reading}
-use Rattle.measuring.specs.Measuring.{readingOf}
+use Rattle.measuring.specs.Measuring.{readingOf, readingsOf}
 use Rattle.measuring.proofs.Negated.{series-negated, sums-negated, difference-negated, reading-same}
 use Rattle.state.specs.declared.Window.{Window}
 use Rattle.state.specs.State.{numberWithin, afterHeld, atEnd, windowWith}
 use Rattle.relay.specs.declared.Relay.{Relay}
-use Rattle.relay.specs.Record.{fresh, admissible}
-use Rattle.relay.specs.Calls.{setRows, sampleRows, Reply, windowAfter, full, counting, measureNow, replyNow, relayNow, sampleReply, sampleRelay}
+use Rattle.page.specs.Events.{written as writtenEvents}
+use Rattle.relay.specs.Record.{fresh, admissible, withEvents}
+use Rattle.relay.specs.Calls.{setRows, sampleRows, windowAfter, full, counting, measureNow, replyNow, shown, eventsNow, relayNow, refusedRelay, leftAt}
+use Rattle.relay.specs.Calls.{sampleReply, sampleRelay}
 use Rattle.relay.specs.Calls.{resetRows, cleared, resetReply, resetRelay}
-use Rattle.relay.specs.Lists.{Call, sample, reset, after, run}
+use Rattle.relay.specs.Page.{readRows, readReply, writeRows, resets, written, writeReply, writeRelay}
+use Rattle.relay.specs.Lists.{Call, sample, reset, read, write, after, run}
 use Rattle.relay.proofs.Admission.{admitted}
 use Rattle.relay.proofs.Kept.{Valid, fresh-admissible, valid-after}
 use Rattle.stability.specs.Turning.{negated, turnedCall, turnedRelay, CyclesNegated, Turned, Turning}
@@ -83,6 +86,10 @@ filed-turned w ns = by (ltb (w .fill) 12)
 
 -- ---- what a set gives
 
+shown-same : (v : Setting) (w : Window) → shown v (turnedWindow w) ≡ shown v w
+unfolding readingsOf
+shown-same v w = rw (reading-same v (w .values) sysA, reading-same v (w .values) sysB, reading-same v (w .values) sysC)
+
 module _ (r : Relay) (w : Window) where
   counting-same : (l : System) → counting (r .setting) (turnedWindow w) l ≡ counting (r .setting) w l
   unfolding readingOf
@@ -95,16 +102,28 @@ module _ (r : Relay) (w : Window) where
   unfolding replyNow
   reply-same = rw (measure-same sysA, measure-same sysB, measure-same sysC)
 
+  events-same : eventsNow (turnedRelay r) (turnedWindow w) ≡ eventsNow r w
+  events-same =
+      rw (shown-same (r .setting) (r .window), shown-same (r .setting) w, counting-same sysA, counting-same sysB, counting-same sysC)
+
   now-turned : relayNow (turnedRelay r) (turnedWindow w) ≡ turnedRelay (relayNow r w)
   unfolding relayNow
-  now-turned = rw (counting-same sysA, counting-same sysB, counting-same sysC)
+  now-turned = rw (events-same, counting-same sysA, counting-same sysB, counting-same sysC)
 
 -- ---- one call
 
 -- the record that a call leaves, by its outcome
-left-turned : {A : Type 0} (o : Outcome A) (r s : Relay) → byOutcome o (λ n. turnedRelay r) (λ a. turnedRelay s) ≡ turnedRelay (byOutcome o (λ n. r) (λ a. s))
-left-turned (gives a) r s = refl
-left-turned (declines n) r s = refl
+left-turned : {A : Type 0} (o : Outcome A) (f : ℕ → Relay) (s : Relay) → byOutcome o (λ n. turnedRelay (f n)) (λ a. turnedRelay s) ≡ turnedRelay (byOutcome o f (λ a. s))
+left-turned (gives a) f s = refl
+left-turned (declines n) f s = refl
+
+refused-turned : (r : Relay) (n : ℕ) → leftAt (turnedRelay r) n ≡ turnedRelay (leftAt r n)
+unfolding refusedRelay
+refused-turned r n = by (eqb n 10 || (eqb n 11 || eqb n 14))
+  where
+    by : (b : Bool) → cond b (refusedRelay (turnedRelay r)) (turnedRelay r) ≡ turnedRelay (cond b (refusedRelay r) r)
+    by true = refl
+    by false = refl
 
 module _ (r : Relay) (adm : admissible r ≡ true) (xs : List ℤ) where
   window-turned : windowAfter (turnedRelay r) (negated xs) ≡ turnedWindow (windowAfter r xs)
@@ -116,7 +135,10 @@ module _ (r : Relay) (adm : admissible r ≡ true) (xs : List ℤ) where
 
   sample-turned : sampleRelay (turnedRelay r) (negated xs) ≡ turnedRelay (sampleRelay r xs)
   sample-turned =
-      let w = windowAfter r xs in rw (sample-same, window-turned, now-turned r w) (left-turned (sampleReply r xs) r (relayNow r w))
+      let w = windowAfter r xs in
+      rw (sample-same, window-turned, now-turned r w)
+      (ap (λ (f : ℕ → Relay). byOutcome (sampleReply r xs) f (λ a. turnedRelay (relayNow r w))) (λ i n. refused-turned r n i)
+      ∙ left-turned (sampleReply r xs) (leftAt r) (relayNow r w))
 
 module _ (r : Relay) where
   reset-same : resetReply (turnedRelay r) ≡ resetReply r
@@ -125,11 +147,34 @@ module _ (r : Relay) where
 
   reset-turned : resetRelay (turnedRelay r) ≡ turnedRelay (resetRelay r)
   unfolding cleared
-  reset-turned = rw reset-same (left-turned (resetReply r) r (cleared r))
+  reset-turned = rw reset-same (left-turned (resetReply r) (λ n. r) (cleared r))
+
+  -- the register page
+  read-same : (o : ℕ) → readReply (turnedRelay r) o ≡ readReply r o
+  unfolding readRows
+  read-same o = rw (turned-admissible r, shown-same (r .setting) (r .window))
+
+  write-same : (o : ℕ) → writeReply (turnedRelay r) o ≡ writeReply r o
+  unfolding writeRows
+  write-same o = rw (turned-admissible r)
+
+  written-turned : (o x : ℕ) → written (turnedRelay r) o x ≡ turnedRelay (written r o x)
+  unfolding written cleared
+  written-turned o x = by (resets o x)
+    where
+      by : (b : Bool) → cond b (cleared (turnedRelay r)) (withEvents (turnedRelay r) (writtenEvents o x (r .events))) ≡
+          turnedRelay (cond b (cleared r) (withEvents r (writtenEvents o x (r .events))))
+      by true = refl
+      by false = refl
+
+  write-turned : (o x : ℕ) → writeRelay (turnedRelay r) o x ≡ turnedRelay (writeRelay r o x)
+  write-turned o x = rw (write-same o, written-turned o x) (left-turned (writeReply r o) (λ n. r) (written r o x))
 
 turned-after : {v : Setting} {r : Relay} → Valid v r → (c : Call) → after (turnedRelay r) (turnedCall c) ≡ turnedRelay (after r c)
 turned-after {r = r} h (sample xs) = sample-turned r (h .ok) xs
 turned-after {r = r} h reset = reset-turned r
+turned-after {r = r} h (read o) = refl
+turned-after {r = r} h (write o x) = write-turned r o x
 
 -- ---- the list
 
@@ -147,6 +192,8 @@ turned-now {v} {r} h =
       same-sets = λ xs. ap noneApplies (rows-same v xs);
       same-answer = sample-same r (h .ok);
       same-reset = reset-same r;
+      same-read = read-same r;
+      same-write = write-same r;
     }
 
 turned-run : {v : Setting} {r : Relay} → Valid v r → (cs : List Call) → Turned v (run r cs) (run (turnedRelay r) (map turnedCall cs))

@@ -1,4 +1,4 @@
--- Demand 3 (00; 01, "A healthy bank"): one claim about the whole list of calls from a fresh relay.
+-- Demand 3 (00; 01, "A healthy bank"; reads and writes by 02, card 2): one claim about the whole list of calls from a fresh relay.
 use mathlib.Core.Path.{_≡_}
 use mathlib.Core.Logic.{_≢_}
 use mathlib.Core.Bool.{false}
@@ -7,6 +7,7 @@ use Prim.Native.Nat.{_≤_}
 use lib.Dec.{T}
 use Rattle.lists.specs.Tests.{Each}
 use Rattle.refusal.specs.Refusals.{Outcome, gives, declines}
+use Rattle.bits.specs.Bits.{bitsOf}
 use Rattle.setting.specs.declared.Setting.{Setting}
 use Rattle.setting.specs.Values.{startable}
 use Rattle.matching.specs.Sets.{System}
@@ -17,12 +18,15 @@ use Rattle.relay.specs.declared.Relay.{Relay}
 use Rattle.state.specs.State.{elementOf}
 use Rattle.relay.specs.Record.{fresh}
 use Rattle.relay.specs.Calls.{accepted, Reply, filling, measured, sampleReply, resetReply}
-use Rattle.relay.specs.Lists.{Call, sample, reset, Every}
+use Rattle.relay.specs.Page.{readReply, writeReply}
+use Rattle.relay.specs.Lists.{Call, sample, reset, read, write, Every}
 
 -- each accepted set is that of a healthy bank
 abbrev pub HealthyCall : Setting → Call → Type 0
 HealthyCall v (sample xs) = T (accepted v xs) → Healthy v xs
 HealthyCall v reset = Unit {0}
+HealthyCall v (read offset) = Unit {0}
+HealthyCall v (write offset byte) = Unit {0}
 
 -- no start, no latch, and D at most 45, 69 or 91 for E 2, 3 or 4
 pub record Calm (v : Setting) (m : Measure) : Type 0 where
@@ -43,13 +47,17 @@ Without12 P (declines n) = n ≢ 12
 abbrev pub CalmCall : Setting → Relay → Call → Type 0
 CalmCall v r (sample xs) = Without12 (CalmReply v) (sampleReply r xs)
 CalmCall v r reset = Without12 (λ done. Unit {0}) (resetReply r)
+CalmCall v r (read offset) = Without12 (λ byte. Unit {0}) (readReply r offset)
+CalmCall v r (write offset byte) = Without12 (λ done. Unit {0}) (writeReply r offset)
 
--- a record with no latch
-abbrev pub NoLatch : Relay → Type 0
-NoLatch r = (l : System) → elementOf (r .trip) l .latch ≡ false
+-- a record with no latch, and with the flags of a new start and a new trip not raised
+pub record Still (r : Relay) : Type 0 where
+  pub no-latch : (l : System) → elementOf (r .trip) l .latch ≡ false
+  pub no-start-flag : bitsOf (r .events .flags) .b0 ≡ false
+  pub no-trip-flag : bitsOf (r .events .flags) .b1 ≡ false
 
--- Start a relay on any setting that it accepts, and take every list of sample and reset calls, refused ones included. Where each accepted set
--- is that of a healthy bank, no record of the list, the first included, has a latch, and every answer is calm: nothing starts, nothing trips, and D
--- keeps its limit.
+-- Start a relay on any setting that it accepts, and take every list of sample and reset calls, reads and writes, refused ones included. Where each accepted
+-- set is that of a healthy bank, no record of the list, the first included, has a latch or a flag of a start or trip, and every answer is calm:
+-- nothing starts, nothing trips, and D keeps its limit.
 unfoldable pub Stability : Type 0
-Stability = (v : Setting) → T (startable v) → (cs : List Call) → Each (HealthyCall v) cs → Every NoLatch (CalmCall v) (fresh v) cs
+Stability = (v : Setting) → T (startable v) → (cs : List Call) → Each (HealthyCall v) cs → Every Still (CalmCall v) (fresh v) cs

@@ -15,7 +15,8 @@ use Rattle.state.specs.State.{elementOf}
 use Rattle.state.specs.Rows.{InARow, rowNow}
 use Rattle.relay.specs.Record.{fresh}
 use Rattle.relay.specs.Calls.{accepted, counting}
-use Rattle.relay.specs.Lists.{Call, sample, reset, run}
+use Rattle.relay.specs.Page.{resets}
+use Rattle.relay.specs.Lists.{Call, sample, reset, read, write, run}
 use Rattle.stability.specs.Lists.{filing, last12, windowOf}
 
 -- The trail of a list of calls: the sets filed, in order; and of those since the last reset, newest first, whether the system counted at each.
@@ -24,10 +25,12 @@ pub record Trail : Type 0 where
   pub counted : List Bool
 
 -- What a call makes of the latter, with the sets filed by then. An accepted set counts or not by the window of the last twelve, itself the newest; where
--- it answers Filling it does not. A declined set is passed over. A reset starts anew.
+-- it answers Filling it does not. A declined set is passed over, and so are reads and writes. A reset starts anew, by call or by page.
 abbrev pub countedSince : Setting → System → List (List ℤ) → List Bool → Call → List Bool
 countedSince v l ws bs (sample xs) = cond (accepted v xs) (counting v (windowOf (last12 ws)) l ∷ bs) bs
 countedSince v l ws bs reset = []
+countedSince v l ws bs (read offset) = bs
+countedSince v l ws bs (write offset byte) = cond (resets offset byte) [] bs
 
 abbrev pub trailing : Setting → System → Trail → Call → Trail
 trailing v l t c = record { sets = filing v (t .sets) c; counted = countedSince v l (filing v (t .sets) c) (t .counted) c }

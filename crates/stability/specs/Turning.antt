@@ -13,7 +13,8 @@ use Rattle.measuring.specs.Window.{series, sums, difference}
 use Rattle.relay.specs.declared.Relay.{Relay}
 use Rattle.relay.specs.Record.{fresh}
 use Rattle.relay.specs.Calls.{accepted, sampleReply, resetReply}
-use Rattle.relay.specs.Lists.{Call, sample, reset, run}
+use Rattle.relay.specs.Page.{readReply, writeReply}
+use Rattle.relay.specs.Lists.{Call, sample, reset, read, write, run}
 
 -- every number negated
 abbrev pub negated : List ℤ → List ℤ
@@ -23,10 +24,18 @@ negated xs = map negℤ xs
 abbrev pub turnedCall : Call → Call
 turnedCall (sample xs) = sample (negated xs)
 turnedCall reset = reset
+turnedCall (read offset) = read offset
+turnedCall (write offset byte) = write offset byte
 
--- a record with every matched number in its window negated, and all else as it was: setting, fill, counters and latches
+-- a record with every matched number in its window negated, and all else as it was: setting, fill, counters, latches and events
 abbrev pub turnedRelay : Relay → Relay
-turnedRelay r = record { setting = r .setting; window = record { values = negated (r .window .values); fill = r .window .fill }; trip = r .trip }
+turnedRelay r =
+    record {
+      setting = r .setting;
+      window = record { values = negated (r .window .values); fill = r .window .fill };
+      trip = r .trip;
+      events = r .events;
+    }
 
 -- c and s of the twelve numbers u are those of w, negated, for h = 1, 2, 5
 pub record CyclesNegated (u w : ℕ → ℤ) : Type 0 where
@@ -35,7 +44,7 @@ pub record CyclesNegated (u w : ℕ → ℤ) : Type 0 where
 
 -- What the record r of a list and the record t of the list with the leads turned have, and the next call on each.
 pub record Turned (v : Setting) (r t : Relay) : Type 0 where
-  -- the matched numbers in the window are negated; setting, fill, counters and latches are the same
+  -- the matched numbers in the window are negated; setting, fill, counters, latches and events are the same
   pub relay : t ≡ turnedRelay r
   -- c and s are negated, of the sum over the ends, of end 0 minus end 1, and of each end
   pub of-sums : (l : System) → CyclesNegated (sums (v .ends) (t .window .values) l) (sums (v .ends) (r .window .values) l)
@@ -46,8 +55,11 @@ pub record Turned (v : Setting) (r t : Relay) : Type 0 where
   -- and every answer is the same: Filling and its number; D, R, H2, H5, start, blocked and latched; or the refusal
   pub same-answer : (xs : List ℤ) → sampleReply t (negated xs) ≡ sampleReply r xs
   pub same-reset : resetReply t ≡ resetReply r
+  -- so is every byte of the register page, and what a write answers
+  pub same-read : (offset : ℕ) → readReply t offset ≡ readReply r offset
+  pub same-write : (offset : ℕ) → writeReply t offset ≡ writeReply r offset
 
--- For every setting that a relay can be started on, and after any list of sample and reset calls from its fresh relay, refused ones included: negating
--- every sample of every set negates every matched number, c and s, and leaves the answers, counters and latches as they were.
+-- For every setting that a relay can be started on, and after any list of calls from its fresh relay, refused ones included: negating every sample of
+-- every set negates every matched number, c and s, and leaves the answers, counters, latches and events as they were.
 unfoldable pub Turning : Type 0
 Turning = (v : Setting) → T (startable v) → (cs : List Call) → Turned v (run (fresh v) cs) (run (fresh v) (map turnedCall cs))

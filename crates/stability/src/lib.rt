@@ -1,21 +1,33 @@
-// The theorems over lists of sample and reset calls from a fresh relay: no code, the statements and their proofs.
+// The theorems over lists of calls, mostly from a fresh relay: no code, the statements and their proofs.
 
-ghost use Rattle.stability.specs.Lists.{SettingKept, WindowFiled, Answered, ResetAccepted};
+ghost use Rattle.stability.specs.Lists.{SettingKept, WindowFiled, Answered, ResetAccepted, ReadAnswered, WriteAnswered};
 ghost use Rattle.stability.specs.Trips.{Latched, Counted};
+ghost use Rattle.stability.specs.Flags.{Noted};
+ghost use Rattle.stability.specs.Apart.{PageApart};
 ghost use Rattle.stability.specs.Stability.{Stability};
 ghost use Rattle.stability.specs.Example.{FaultUnhealthy};
 ghost use Rattle.stability.specs.ThroughFault.{ThroughFault};
 ghost use Rattle.stability.specs.Turning.{Turning};
 
 // Demand 2 over the list: the setting is kept, the window is that of the last twelve accepted sets, a set is answered as the definitions give for it,
-// and a reset is accepted.
+// a reset is accepted, and the register page shows that window.
 pub fn filed()
-    ensures { λ _. ⌜ SettingKept × WindowFiled × Answered × ResetAccepted ⌝ }
+    ensures { λ _. ⌜ SettingKept × WindowFiled × Answered × ResetAccepted × ReadAnswered × WriteAnswered ⌝ }
 {}
 
 // Latches and counters over the list: they are those of the sets in a row that counted since the last reset.
 pub fn trips()
     ensures { λ _. ⌜ Latched × Counted ⌝ }
+{}
+
+// Flags and interrupt mask over the list: they are those of the starts, trips, refused sets and writes in it.
+pub fn noted()
+    ensures { λ _. ⌜ Noted ⌝ }
+{}
+
+// The register page stands apart: struck of its reads, and of its writes that do not reset, a list has the same answers.
+pub fn apart()
+    ensures { λ _. ⌜ PageApart ⌝ }
 {}
 
 // Demand 3: no start, no trip, and D within its limit, over every list of calls whose accepted sets are those of a healthy bank.

@@ -1,6 +1,6 @@
 -- The counter and the latch of each system: the test of refusal 12 on the counters, and what a set makes of the two.
 use mathlib.Core.Path.{_≡_, refl}
-use mathlib.Core.Bool.{Bool, true, false, cond}
+use mathlib.Core.Bool.{Bool, true, false, _||_, cond}
 use Prim.Native.Nat.{ℕ, _+_, _≤_}
 use native.Mathlib.Omega.{arith}
 use lib.Dec.{T, ltb, le→leb}
@@ -41,3 +41,12 @@ element-≤ M b e = counter-≤ M b (e .count)
 pub no-latch-after : (M : ℕ) (e : Element) {b : Bool} → b ≡ false → e .latch ≡ false → elementAfter M b e .latch ≡ false
 unfolding elementAfter
 no-latch-after M e p q = simp (p, q)
+
+-- nor does it clear one
+pub latch-kept : (M : ℕ) (e : Element) → elementAfter M false e .latch ≡ e .latch
+unfolding elementAfter
+latch-kept M e = by (e .latch)
+  where
+    by : (b : Bool) → (b || false) ≡ b
+    by true = refl
+    by false = refl

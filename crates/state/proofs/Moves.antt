@@ -6,7 +6,7 @@ use native.Mathlib.Nat.{zero-add, add-comm}
 use native.Mathlib.Numerals.{add-one}
 use native.Mathlib.Omega.{arith}
 use lib.ListN.{length, getD, set, take, drop, length-append, length-drop, drop-of-length-le}
-use lib.Seq.{paste, paste-suc, length-paste-head, getD-append-add, getD-drop, take-all, take-at}
+use lib.Seq.{paste, paste-suc, getD-drop, take-all, take-at}
 use lib.IntN.{ℤ, pos}
 use lib.Signed.{mag}
 use mir.Syntax.{w32}
@@ -36,25 +36,11 @@ module _ (d s : List ℤ) where
       ∙ paste-suc d 0 s k (pos 0) (omega arith) hs
       ∙ rw add-one
 
-  -- past what was copied, the list is as it was
-  beyond : (k n : ℕ) → k ≤ length s → getD (paste d 0 s k) (k + n) (pos 0) ≡ getD d (k + n) (pos 0)
-  beyond k n h =
-      let e : length (take 0 d ++ take k s) ≡ k = length-paste-head d 0 s k (omega arith) h ∙ zero-add k in
-      ap (λ (j : ℕ). getD (paste d 0 s k) (j + n) (pos 0)) (sym e)
-      ∙ getD-append-add (take 0 d ++ take k s) (drop (0 + k) d) n (pos 0)
-      ∙ getD-drop (0 + k) d n (pos 0)
-      ∙ ap (λ (j : ℕ). getD d (j + n) (pos 0)) (zero-add k)
-
 -- one store of the loop that moves the numbers on by twelve
-pub shift-more : (w t : List ℤ) (k : ℕ) → length w ≡ 144 → k < 132 → mag (getD t (k + 12) (pos 0)) < 2 ^ 31 → t ≡ paste w 0 (drop 12 w) k →
-    set t k (toZ w32 (ofZ w32 (getD t (k + 12) (pos 0)))) ≡ paste w 0 (drop 12 w) (k + 1)
+pub shift-more : (w t : List ℤ) (k : ℕ) → length w ≡ 144 → k < 132 → mag (getD w (k + 12) (pos 0)) < 2 ^ 31 → t ≡ paste w 0 (drop 12 w) k →
+    set t k (toZ w32 (ofZ w32 (getD w (k + 12) (pos 0)))) ≡ paste w 0 (drop 12 w) (k + 1)
 shift-more w t k l h s inv =
-    ap (λ (z : ℤ). set t k z)
-    (back-ok w32 (getD t (k + 12) (pos 0)) s
-    ∙ ap (λ (x : List ℤ). getD x (k + 12) (pos 0)) inv
-    ∙ beyond w (drop 12 w) k 12 (omega (arith, length-drop 12 w))
-    ∙ (rw (add-comm k 12))
-    ∙ sym (getD-drop 12 w k (pos 0)))
+    ap (λ (z : ℤ). set t k z) (back-ok w32 (getD w (k + 12) (pos 0)) s ∙ (rw (add-comm k 12)) ∙ sym (getD-drop 12 w k (pos 0)))
     ∙ copy-more w (drop 12 w) t k (omega arith) (omega (arith, length-drop 12 w)) inv
 
 pub shift-all : (w : List ℤ) → length w ≡ 144 → paste w 0 (drop 12 w) 132 ≡ drop 12 w ++ drop 132 w

@@ -67,7 +67,7 @@ fn shifted(values: [i32; 144]) -> [i32; 144]
     let mut k: usize = 0;
     while k < 132 {
         let i = k + 12;
-        let x = t[i];
+        let x = values[i];
         t[k] = x;
         k += 1;
     }

@@ -10,13 +10,13 @@ use Rattle.state.proofs.shifted.Statement.{statement}
 use Rattle.state.proofs.shifted.Tie as tie
 
 abbrev Inv-loop : tie.InvT-loop
-Inv-loop t₀ k₀ t k = (k ≤ 132) × (t ≡ paste t₀ 0 (drop 12 t₀) k)
+Inv-loop values t₀ k₀ t k = (k ≤ 132) × (t ≡ paste values 0 (drop 12 values) k)
 
 abbrev μ-loop : tie.MeasureT-loop
-μ-loop t₀ k₀ t k = 132 - k
+μ-loop values t₀ k₀ t k = 132 - k
 
 loop-holds : tie.Need-loop-holds Inv-loop μ-loop
-loop-holds c = (search needs, paste-zero (c .args .values) 0 (drop 12 (c .args .values)))
+loop-holds c = (search needs, paste-zero (c .args .t1) 0 (drop 12 (c .args .t1)))
 
 add-i : tie.Need-add-i Inv-loop μ-loop
 add-i c = search needs
@@ -41,7 +41,7 @@ loop-less c = search needs
 
 loop-again : tie.Need-loop-again Inv-loop μ-loop
 loop-again c =
-    let w = c .before .before .before .args .values in
+    let w = c .before .before .before .args .t1 in
     let l : length w ≡ 144 = search needs in (
       search needs,
       shift-more w (c .before .before .loop .t) (c .before .before .loop .k) l (c .before .loop-test .taken) (c .x .given) (c .before .before .loop .inv .1),
@@ -49,7 +49,7 @@ loop-again c =
 
 returns : tie.Need-returns Inv-loop μ-loop
 returns c =
-    let w = c .before .before .args .values in
+    let w = c .before .before .args .t1 in
     let l : length w ≡ 144 = search needs in
     let e : c .before .loop .k ≡ 132 = omega arith in
     c .before .loop .inv .1 ∙ rw e (shift-all w l)

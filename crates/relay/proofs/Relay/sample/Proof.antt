@@ -27,7 +27,7 @@ returns c =
     declined (start .args .self) (start .args .set .now) (here (rw (← (c .before .before .admissible .ensures)) (c .before .if1 .taken))) (c .refused .ensures)
 
 factors-requires : tie.Need-factors-requires
-factors-requires c κs = factors-ready _ (c .before .before .before .args .set .now) (admitted (c .before))
+factors-requires c κs = factors-ready _ (admitted (c .before))
 
 sample-admitted-requires : tie.Need-sample-admitted-requires
 sample-admitted-requires c κs = record { admitted = admitted (c .before .before); known = c .factors .ensures }

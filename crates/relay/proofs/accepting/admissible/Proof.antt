@@ -30,18 +30,27 @@ counters-within-requires : tie.Need-counters-within-requires
 counters-within-requires c κs = search needs
 
 returns-4 : tie.Need-returns-4
-returns-4 c =
-    let else3 = c .before in
+returns-4 c = inadmissible _ 3 (sym (c .before .counters-within .ensures) ∙ not-true _ (c .if4 .taken))
+
+within-requires : tie.Need-within-requires
+within-requires c κs = search needs
+
+returns-5 : tie.Need-returns-5
+returns-5 c =
+    let else4 = c .before in
+    let else3 = else4 .before .before in
     let else2 = else3 .before .before .before in
     let else1 = else2 .before .before in
-    c .counters-within .ensures
+    c .within .ensures
     ∙ last-admits _
     (is-T (sym (else1 .before .sound .ensures) ∙ not-false _ (else1 .if1 .left))
     & le→leb _ _ (else2 .if2 .left)
     & is-T (sym (else3 .before .numbers-within .ensures) ∙ not-false _ (else3 .if3 .left))
+    & is-T (sym (else4 .before .counters-within .ensures) ∙ not-false _ (else4 .if4 .left))
     & none)
 
 pub admissible-spec : {M : Type 1} → statement M
 admissible-spec =
     tie.close
-    (tie.spec sound-requires returns returns-2 slice-aggregate-numbers-within numbers-within-requires returns-3 counters-within-requires returns-4)
+    (tie.spec sound-requires returns returns-2 slice-aggregate-numbers-within numbers-within-requires returns-3 counters-within-requires returns-4
+    within-requires returns-5)

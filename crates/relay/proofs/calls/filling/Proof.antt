@@ -17,9 +17,9 @@ returns : tie.Need-returns
 returns c =
     let start = c .before .before .before .before .before in
     record {
-      reply = filling-reply (start .args .r) (start .args .w) (start .pre);
+      reply = filling-reply (start .args .r) (start .args .w) (start .pre .unfilled);
       relay =
-          filling-relay (start .args .r) (start .args .w) (start .pre) (c .before .before .element-after .ensures) (c .before .element-after2 .ensures)
+          filling-relay (start .args .r) (start .args .w) (start .pre .unfilled) (start .pre .admitted) (c .before .before .element-after .ensures) (c .before .element-after2 .ensures)
           (c .element-after3 .ensures);
     }
 

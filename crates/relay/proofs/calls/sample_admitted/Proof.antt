@@ -101,7 +101,7 @@ numbers-requires c κs =
 place-requires : tie.Need-place-requires
 place-requires c κs =
     let else1 = c .before .before .before .before .before .before .before in
-    few-held _ (else1 .before .args .set .now) (else1 .before .pre .admitted)
+    few-held _ (else1 .before .pre .admitted)
 
 -- once the set is filed
 module _ (c : tie.After-place) where
@@ -132,7 +132,7 @@ filling-requires : tie.Need-filling-requires
 filling-requires c κs =
     let n = c .before .before .place .result .fill in
     let less : n < 12 = c .if4 .taken in
-    ne-eqb n 12 (λ e. omega arith)
+    record { admitted = start (c .before .before) .pre .admitted; unfilled = ne-eqb n 12 (λ e. omega arith) }
 
 returns-4 : tie.Need-returns-4
 returns-4 c = answered (c .before .before .before) (c .filling .ensures)
@@ -142,7 +142,10 @@ measured-requires c κs =
     let n = c .before .before .place .result .fill in
     let more : 12 ≤ n = c .if4 .left in
     let most = at-most (c .before .before) in
-    record { full = eq-eqb n 12 (omega arith); measurable = measurable (c .before .before) }
+    record {
+      admitted = start (c .before .before) .pre .admitted;
+      window = record { full = eq-eqb n 12 (omega arith); measurable = measurable (c .before .before) };
+    }
 
 returns-5 : tie.Need-returns-5
 returns-5 c = answered (c .before .before .before) (c .measured .ensures)

@@ -1,0 +1,123 @@
+// The register page, read and written a byte at a time. Both take the record by value and hand it back beside the answer.
+
+ghost use mathlib.Core.Path.{_≡_};
+ghost use mathlib.Core.Bool.{true, _||_};
+ghost use lib.Dec.{eqb};
+ghost use lib.ListN.{getD};
+ghost use Rattle.relay.specs.declared.PageByte.the-variants.{Refused};
+ghost use Rattle.relay.specs.Record.{admissible};
+ghost use Rattle.relay.specs.Calls.{shown as shownOf};
+ghost use Rattle.relay.specs.Page.{pageOf, resets as resetsOf, written as writtenOf, Reads, Writes};
+use crate::PageByte;
+use crate::PageRead;
+use crate::Relay;
+use crate::Returned;
+use crate::accepting;
+use crate::calls;
+use measuring::Readings;
+use refusal::Refusal;
+use refusal::Verdict;
+
+// Masks and currents of the last accepted set, zero unless the window is full.
+fn shown(r: Relay) -> Readings
+    requires { ⌜ admissible r ≡ true ⌝ }
+    ensures { λ m. ⌜ m ≡ shownOf (r .setting) (r .window) ⌝ }
+{
+    let w = r.window;
+    if w.fill < 12 {
+        return page::nothing();
+    }
+    let values = w.values;
+    measuring::measure(r.setting, &values)
+}
+
+// The byte at an offset; nothing is measured where the byte does not show it.
+fn byte_at(r: Relay, offset: usize) -> u8
+    requires { ⌜ admissible r ≡ true ⌝ }
+    ensures { λ b. ⌜ b ≡ getD (pageOf r) offset 0 ⌝ }
+{
+    if page::shows_measured(offset) {
+        return page::byte(r.trip, shown(r), r.events, offset);
+    }
+    page::byte(r.trip, page::nothing(), r.events, offset)
+}
+
+// 1 written to byte 7.
+fn resets(offset: usize, byte: u8) -> bool
+    ensures { λ b. ⌜ b ≡ resetsOf offset byte ⌝ }
+{
+    if offset == 7 { byte == 1 } else { false }
+}
+
+// What a write leaves.
+fn written(r: Relay, offset: usize, byte: u8) -> Relay
+    ensures { λ s. ⌜ s ≡ writtenOf r offset byte ⌝ }
+{
+    if resets(offset, byte) {
+        return calls::cleared(r);
+    }
+    let events = page::written(offset, byte, r.events);
+    let mut relay = r;
+    relay.events = events;
+    relay
+}
+
+// Whether the byte at an offset is written: 3, 4 and 7.
+fn writable(offset: usize) -> bool
+    ensures { λ b. ⌜ b ≡ (eqb offset 3 || (eqb offset 4 || eqb offset 7)) ⌝ }
+{
+    if offset == 3 {
+        return true;
+    }
+    if offset == 4 {
+        return true;
+    }
+    offset == 7
+}
+
+// A refusal of a read, with the record as before.
+fn unread(r: Relay, why: Refusal) -> PageRead
+    ensures { λ s. ⌜ s ≡ record { answer = Refused why; relay = r } ⌝ }
+{
+    PageRead {
+        answer: PageByte::Refused(why),
+        relay: r,
+    }
+}
+
+impl Relay {
+    // The byte of the register page at an offset: 15, 12.
+    pub fn read(self, offset: usize) -> PageRead
+        ensures { λ s. ⌜ Reads self offset s ⌝ }
+    {
+        if 64 <= offset {
+            return unread(self, Refusal::Offset);
+        }
+        if !accepting::admissible(self) {
+            return unread(self, Refusal::Record);
+        }
+        PageRead {
+            answer: PageByte::Byte(byte_at(self, offset)),
+            relay: self,
+        }
+    }
+
+    // A byte written to the register page: 15, 16, 12. Bytes 3, 4 and 7 are written.
+    pub fn write(self, offset: usize, byte: u8) -> Returned
+        ensures { λ s. ⌜ Writes self offset byte s ⌝ }
+    {
+        if 64 <= offset {
+            return calls::declined(self, Refusal::Offset);
+        }
+        if !writable(offset) {
+            return calls::declined(self, Refusal::Fixed);
+        }
+        if !accepting::admissible(self) {
+            return calls::declined(self, Refusal::Record);
+        }
+        Returned {
+            verdict: Verdict::Accepted,
+            relay: written(self, offset, byte),
+        }
+    }
+}
