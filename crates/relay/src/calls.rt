@@ -18,6 +18,7 @@ use crate::noting;
 use crate::starting;
 use bits::Bits;
 use measuring::Reading;
+use page::Events;
 use refusal::Refusal;
 use refusal::Verdict;
 use setting::Setting;
@@ -36,6 +37,19 @@ fn element_now(v: Setting, m: Reading, e: Element) -> Element
     )
 }
 
+// The record with a set filed: the window with it, counters and latches after it, and the events.
+fn filed(r: Relay, w: Window, trip: Trip, events: Events) -> Relay
+    ensures { λ s. ⌜ s ≡ record { setting = r .setting; window = w; trip = trip; events = events } ⌝ }
+{
+    let v = r.setting;
+    Relay {
+        setting: v,
+        window: w,
+        trip: trip,
+        events: events,
+    }
+}
+
 // A set filed in a window that is not full yet: the number held, counters cleared.
 fn filling(r: Relay, w: Window) -> Sampled
     requires { ⌜ FillingNow r w ⌝ }
@@ -48,12 +62,9 @@ fn filling(r: Relay, w: Window) -> Sampled
         b: state::element_after(v.confirm, false, t.b),
         c: state::element_after(v.confirm, false, t.c),
     };
-    let mut relay = r;
-    relay.window = w;
-    relay.trip = trip;
     Sampled {
         answer: Answer::Filling(w.fill),
-        relay: relay,
+        relay: filed(r, w, trip, r.events),
     }
 }
 
@@ -73,12 +84,7 @@ fn measured(r: Relay, w: Window) -> Sampled
     let b = element_now(v, in_b, t.b);
     let c = element_now(v, in_c, t.c);
     let trip = Trip { a: a, b: b, c: c };
-    let kept = r.events;
-    let events = if noting::nothing_new(m, t, trip) {
-        kept
-    } else {
-        noting::events_now(r, m, trip)
-    };
+    let events = noting::events_after(r, m, trip);
     let of_a = Measure {
         reading: in_a,
         latched: a.latch,
@@ -91,13 +97,9 @@ fn measured(r: Relay, w: Window) -> Sampled
         reading: in_c,
         latched: c.latch,
     };
-    let mut relay = r;
-    relay.window = w;
-    relay.trip = trip;
-    relay.events = events;
     Sampled {
         answer: Answer::Measured(of_a, of_b, of_c),
-        relay: relay,
+        relay: filed(r, w, trip, events),
     }
 }
 

@@ -1,5 +1,4 @@
-// The event flags after a measured set. What started before the set is worked out only where a system starts now and the flag is not raised yet; where
-// nothing is new the record need not be handed on.
+// The event flags after a measured set. What started before the set is worked out only where a system starts now and the flag is not raised yet.
 
 ghost use mathlib.Core.Path.{_≡_};
 ghost use mathlib.Core.Bool.{true, not, _&&_, _||_};
@@ -70,7 +69,7 @@ fn new_start(r: Relay, m: Readings) -> bool
 }
 
 // Whether a set raises no flag, without a look at what started before it: no system starts, and no latch is new.
-pub fn nothing_new(m: Readings, before: Trip, after: Trip) -> bool
+fn nothing_new(m: Readings, before: Trip, after: Trip) -> bool
     ensures { λ b. ⌜ b ≡ nothingNew m before after ⌝ }
 {
     if bits::some(page::starts(m)) {
@@ -80,7 +79,7 @@ pub fn nothing_new(m: Readings, before: Trip, after: Trip) -> bool
 }
 
 // The events after a set that measures m and leaves these latches.
-pub fn events_now(r: Relay, m: Readings, trip: Trip) -> Events
+fn events_now(r: Relay, m: Readings, trip: Trip) -> Events
     requires { ⌜ admissible r ≡ true ⌝ }
     ensures { λ e. ⌜ e ≡ raised (raisedBy r m trip) (r .events) ⌝ }
 {
@@ -90,4 +89,16 @@ pub fn events_now(r: Relay, m: Readings, trip: Trip) -> Events
         b2: false,
     };
     page::raised(set, r.events)
+}
+
+// The same, with no look at the record where nothing is new.
+pub fn events_after(r: Relay, m: Readings, trip: Trip) -> Events
+    requires { ⌜ admissible r ≡ true ⌝ }
+    ensures { λ e. ⌜ e ≡ raised (raisedBy r m trip) (r .events) ⌝ }
+{
+    let kept = r.events;
+    if nothing_new(m, r.trip, trip) {
+        return kept;
+    }
+    events_now(r, m, trip)
 }
