@@ -22,7 +22,7 @@ pub record Invariant (v : Setting) (Allowed : Call → Type 0) : Type 1 where
   pub Inv : State → Relay → Type 0
   pub Shown : State → Relay → Call → Type 0
   pub first : Inv start (fresh v)
-  -- the record of a step is valid, and the call does one of the three things that `Step` has
+  -- the record of a step is valid, and the call does one of the things that `Step` has
   pub keeps : {g : State} {r s : Relay} {c : Call} → Valid v r → Inv g r → Allowed c → Step v r c s → Inv (next g c) s × Shown g r c
 
 module _ {v : Setting} {Allowed : Call → Type 0} (I : Invariant v Allowed) where

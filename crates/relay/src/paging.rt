@@ -4,7 +4,6 @@ ghost use mathlib.Core.Path.{_≡_};
 ghost use mathlib.Core.Bool.{true, _||_};
 ghost use lib.Dec.{eqb};
 ghost use lib.ListN.{getD};
-ghost use Rattle.relay.specs.declared.PageByte.the-variants.{Refused};
 ghost use Rattle.relay.specs.Record.{admissible};
 ghost use Rattle.relay.specs.Calls.{shown as shownOf};
 ghost use Rattle.relay.specs.Page.{pageOf, resets as resetsOf, written as writtenOf, Reads, Writes};
@@ -75,12 +74,12 @@ fn writable(offset: usize) -> bool
     offset == 7
 }
 
-// A refusal of a read, with the record as before.
-fn unread(r: Relay, why: Refusal) -> PageRead
-    ensures { λ s. ⌜ s ≡ record { answer = Refused why; relay = r } ⌝ }
+// The answer to a read, with the record as before.
+fn answered(r: Relay, answer: PageByte) -> PageRead
+    ensures { λ s. ⌜ s ≡ record { answer = answer; relay = r } ⌝ }
 {
     PageRead {
-        answer: PageByte::Refused(why),
+        answer: answer,
         relay: r,
     }
 }
@@ -91,15 +90,12 @@ impl Relay {
         ensures { λ s. ⌜ Reads self offset s ⌝ }
     {
         if 64 <= offset {
-            return unread(self, Refusal::Offset);
+            return answered(self, PageByte::Refused(Refusal::Offset));
         }
         if !accepting::admissible(self) {
-            return unread(self, Refusal::Record);
+            return answered(self, PageByte::Refused(Refusal::Record));
         }
-        PageRead {
-            answer: PageByte::Byte(byte_at(self, offset)),
-            relay: self,
-        }
+        answered(self, PageByte::Byte(byte_at(self, offset)))
     }
 
     // A byte written to the register page: 15, 16, 12. Bytes 3, 4 and 7 are written.

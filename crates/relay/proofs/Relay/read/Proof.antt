@@ -13,19 +13,19 @@ use Rattle.relay.proofs.Relay.read.Tie as tie
 admitted : (c : tie.Else2) → admissible (c .before .before .before .args .self) ≡ true
 admitted c = sym (c .before .admissible .ensures) ∙ not-false (c .before .admissible .result) (c .if2 .left)
 
-unread-requires : tie.Need-unread-requires
-unread-requires c κs = search needs
+answered-requires : tie.Need-answered-requires
+answered-requires c κs = search needs
 
 returns : tie.Need-returns
 unfolding readRows
 returns c =
-    rw (c .unread .ensures) (record { reply = rw (le-leb 64 (c .before .before .args .offset) (c .before .if1 .taken)); relay = refl })
+    rw (c .answered .ensures) (record { reply = rw (le-leb 64 (c .before .before .args .offset) (c .before .if1 .taken)); relay = refl })
 
 admissible-requires : tie.Need-admissible-requires
 admissible-requires c κs = search needs
 
-unread-requires-2 : tie.Need-unread-requires-2
-unread-requires-2 c κs = search needs
+answered-requires-2 : tie.Need-answered-requires-2
+answered-requires-2 c κs = search needs
 
 returns-2 : tie.Need-returns-2
 unfolding readRows
@@ -33,19 +33,21 @@ returns-2 c =
     let then2 = c .before in
     let else1 = then2 .before .before in
     let e = sym (then2 .before .admissible .ensures) ∙ not-true (then2 .before .admissible .result) (then2 .if2 .taken) in
-    rw (c .unread2 .ensures) (record { reply = rw (lt-leb 64 (else1 .before .args .offset) (else1 .if1 .left), e); relay = refl })
+    rw (c .answered2 .ensures) (record { reply = rw (lt-leb 64 (else1 .before .args .offset) (else1 .if1 .left), e); relay = refl })
 
 byte-at-requires : tie.Need-byte-at-requires
 byte-at-requires c κs = admitted c
 
+answered-requires-3 : tie.Need-answered-requires-3
+answered-requires-3 c κs = search needs
+
 returns-3 : tie.Need-returns-3
 unfolding readRows
 returns-3 c =
-    let else1 = c .before .before .before in
-    record {
-      reply = rw (lt-leb 64 (else1 .before .args .offset) (else1 .if1 .left), admitted (c .before)) (ap (λ (n : ℕ). gives n) (c .byte-at .ensures));
-      relay = refl;
-    }
+    let else2 = c .before .before in
+    let else1 = else2 .before .before in
+    let byte = ap (λ (n : ℕ). gives n) (c .before .byte-at .ensures) in
+    rw (c .answered3 .ensures) (record { reply = rw (lt-leb 64 (else1 .before .args .offset) (else1 .if1 .left), admitted else2) byte; relay = refl })
 
 pub read-spec : {M : Type 1} → statement M
-read-spec = tie.close (tie.spec unread-requires returns admissible-requires unread-requires-2 returns-2 byte-at-requires returns-3)
+read-spec = tie.close (tie.spec answered-requires returns admissible-requires answered-requires-2 returns-2 byte-at-requires answered-requires-3 returns-3)
