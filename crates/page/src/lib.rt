@@ -4,7 +4,8 @@ ghost use mathlib.Core.Path.{_≡_};
 ghost use Prim.Native.Nat.{_≤_};
 ghost use lib.ListN.{getD};
 ghost use Rattle.lists.specs.Tests.{hold};
-ghost use Rattle.page.specs.Events.{within as withinOf, raised as raisedBy, lowered as loweredBy, masked as maskedBy, written as writtenAt, interrupt as interruptOf};
+ghost use Rattle.page.specs.Events.{within as withinOf, new, raised as raisedBy, lowered as loweredBy, masked as maskedBy, written as writtenAt};
+ghost use Rattle.page.specs.Events.{interrupt as interruptOf};
 ghost use Rattle.page.specs.Page.{startsOf, blocksOf, currents, nothing as nothingShown, page, measuredAt};
 use bits::Bits;
 use measuring::Reading;
@@ -25,6 +26,13 @@ pub fn within(e: Events) -> bool
         return false;
     }
     e.mask <= 7
+}
+
+// Whether a bit is set that was not before: so a start or a trip is new.
+pub fn is_new(before: Bits, after: Bits) -> bool
+    ensures { λ b. ⌜ b ≡ new before after ⌝ }
+{
+    bits::some(bits::without(after, before))
 }
 
 // The events with some flags raised.

@@ -75,7 +75,7 @@ fn nothing_new(m: Readings, before: Trip, after: Trip) -> bool
     if bits::some(page::starts(m)) {
         return false;
     }
-    !bits::some(bits::without(state::latches(after), state::latches(before)))
+    !page::is_new(state::latches(before), state::latches(after))
 }
 
 // The events after a set that measures m and leaves these latches.
@@ -85,7 +85,7 @@ fn events_now(r: Relay, m: Readings, trip: Trip) -> Events
 {
     let set = Bits {
         b0: new_start(r, m),
-        b1: bits::some(bits::without(state::latches(trip), state::latches(r.trip))),
+        b1: page::is_new(state::latches(r.trip), state::latches(trip)),
         b2: false,
     };
     page::raised(set, r.events)

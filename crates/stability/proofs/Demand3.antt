@@ -1,6 +1,7 @@
 -- Demand 3. The sets of a healthy bank are filed with sums over the ends within 13·E. From a window of twelve such sets D is at most 45, 69 or 91, so
 -- nothing starts and nothing counts, whatever R, H2, H5 and the blocking are. The invariant: the window is that of the last twelve sets filed
--- (Demand2.antt), each set filed is close, and no latch is set, nor a flag of a start or trip. And from demand 3, that a list of calls which trips is not that of a healthy bank.
+-- (Demand2.antt), each set filed is close, and no latch is set, nor a flag of a start or trip. And from demand 3, that a list of calls which trips is not
+-- that of a healthy bank.
 use mathlib.Core.Path.{_≡_, _∙_, refl, sym, ap}
 use mathlib.Core.Bool.{false, Bool, true, not, _||_, cond, true≢false}
 use mathlib.Core.List.{List, [], _∷_}
@@ -35,11 +36,10 @@ use Rattle.measuring.specs.Measuring.{differential, start, blocked, readingOf, 
 use Rattle.state.specs.declared.Window.{Window}
 use Rattle.state.specs.State.{elementOf, perSystem, clear, latchesOf}
 use Rattle.bits.specs.declared.Bits.{Bits}
-use Rattle.bits.specs.Bits.{bitsOf, either}
-use Rattle.page.specs.declared.Events.{Events}
-use Rattle.page.specs.Events.{new, written}
+use Rattle.bits.specs.Bits.{bitsOf}
+use Rattle.page.specs.Events.{new, raised, written}
 use Rattle.page.specs.Page.{startsOf, nothing}
-use Rattle.page.proofs.EventLaws.{no-bit, raised-flags, written-lower}
+use Rattle.page.proofs.EventLaws.{no-bit, raised-none, raised-flags, written-lower}
 use Rattle.state.proofs.Elements.{per-system, no-latch-after}
 use Rattle.relay.specs.Calls.{accepted, full, counting, elementNow, tripNow, measureNow, replyNow, shown, raisedBy, eventsNow, relayNow, refusedSet, refusedRelay}
 use Rattle.relay.specs.Calls.{cleared, filling, measured}
@@ -50,7 +50,7 @@ use Rattle.relay.specs.declared.Measure.{Measure}
 use Rattle.relay.specs.declared.Relay.{Relay}
 use Rattle.relay.specs.Record.{fresh, withEvents}
 use Rattle.relay.specs.Lists.{Call}
-use Rattle.relay.proofs.Admission.{is-T}
+use Rattle.relay.proofs.Admission.{is-T, admitted}
 use Rattle.relay.proofs.Kept.{Valid, Step, files, declines, clears, reads, resets-by-page, writes}
 use Rattle.relay.proofs.Cases.{not-12}
 use Rattle.relay.proofs.Induction.{Invariant, along, last, every}
@@ -157,16 +157,17 @@ module _ (v : Setting) (s : T (startable v)) where
       none-new =
           λ i. record { b0 = new (startsOf (shown (r .setting) (r .window))) (starts-none i); b1 = new (latchesOf (r .trip)) (latches-none i); b2 = false }
 
-      flags-now : bitsOf (eventsNow r (held ws) .flags) ≡ either (bitsOf (r .events .flags)) no-bit
-      flags-now = raised-flags _ (r .events) ∙ ap (λ (b : Bits). either (bitsOf (r .events .flags)) b) none-new
+      -- so the events stay as they were
+      events-same : eventsNow r (held ws) ≡ r .events
+      events-same = ap (λ (b : Bits). raised b (r .events)) none-new ∙ raised-none (r .events) (admitted r (h .ok) 4)
 
       still-now : Still (relayNow r (held ws))
       unfolding relayNow
       still-now =
           record {
             no-latch = per-system (λ e. e .latch ≡ false) (elementNow r (held ws)) latch-no;
-            no-start-flag = ap (λ (b : Bits). b .b0) flags-now ∙ rw (still .no-start-flag);
-            no-trip-flag = ap (λ (b : Bits). b .b1) flags-now ∙ rw (still .no-trip-flag);
+            no-start-flag = rw events-same (still .no-start-flag);
+            no-trip-flag = rw events-same (still .no-trip-flag);
           }
 
       calm : full (held ws) ≡ true → (l : System) → Calm v (measureNow r (held ws) l)
@@ -186,20 +187,17 @@ module _ (v : Setting) (s : T (startable v)) where
 
   -- ---- each call, and the list
 
-  -- events of which no flag is raised but that of a refused set
-  still-events : {r : Relay} {e : Events} → Still r → (bitsOf (e .flags) .b0 ≡ false) × (bitsOf (e .flags) .b1 ≡ false) → Still (withEvents r e)
-  still-events q (start, trip) = record { no-latch = q .no-latch; no-start-flag = start; no-trip-flag = trip }
-
+  -- a refused set raises its own flag alone, and a write none
   still-refused : {r : Relay} → Still r → Still (refusedRelay r)
   unfolding refusedRelay
   still-refused {r} q =
       let flags = raised-flags refusedSet (r .events) in
-      still-events q (ap (λ (b : Bits). b .b0) flags ∙ rw (q .no-start-flag), ap (λ (b : Bits). b .b1) flags ∙ rw (q .no-trip-flag))
+      record { no-latch = q .no-latch; no-start-flag = rw (flags, q .no-start-flag); no-trip-flag = rw (flags, q .no-trip-flag) }
 
   still-written : {r : Relay} → Still r → (o x : ℕ) → Still (withEvents r (written o x (r .events)))
   still-written {r} q o x =
       let flags = written-lower o x (r .events) .is in
-      still-events q (ap (λ (b : Bits). b .b0) flags ∙ rw (q .no-start-flag), ap (λ (b : Bits). b .b1) flags ∙ rw (q .no-trip-flag))
+      record { no-latch = q .no-latch; no-start-flag = rw (flags, q .no-start-flag); no-trip-flag = rw (flags, q .no-trip-flag) }
 
   still-cleared : {r : Relay} → Still r → Still (cleared r)
   unfolding cleared

@@ -1,7 +1,7 @@
 -- Event flags and interrupt mask over lists of calls. The invariant: each system is traced by the log's sets and counts (TripLaws.antt), so that starts and
 -- latches by the record are those by the log; and the events are the log's.
-use mathlib.Core.Path.{_≡_, refl, sym, ap, _∙_}
-use mathlib.Core.Bool.{Bool, false, cond}
+use mathlib.Core.Path.{_≡_, refl, ap, _∙_}
+use mathlib.Core.Bool.{false}
 use mathlib.Core.List.{[]}
 use Rattle.setting.specs.declared.Setting.{Setting}
 use Rattle.matching.specs.Sets.{System, sysA, sysB, sysC}
@@ -49,7 +49,7 @@ module _ (v : Setting) where
       λ i. raised
       (record { b0 = new (start i) (start-now i); b1 = new (latches-at g (k .traced) i) (latches-at after t i); b2 = false })
       (k .events i) in
-      is ∙ ap (λ (b : Bool). cond b raises (raised refusedSet (g .events))) (sym e)
+      is ∙ rw e
   events-kept h k t (declines e o) = rw e (ap (raised refusedSet) (k .events))
   events-kept h k t (clears o) = k .events
   events-kept h k t (reads o) = k .events

@@ -1,10 +1,7 @@
 -- `relay::noting::events_now` meets its contract: the flag of a start may be left out where it is raised.
 use borrow.Author.Needs.{needs}
-use mathlib.Core.Path.{refl, ap, _∙_}
+use mathlib.Core.Path.{refl, _∙_}
 use mathlib.Core.Bool.{false}
-use Rattle.bits.specs.declared.Bits.{Bits}
-use Rattle.bits.specs.Bits.{without, some}
-use Rattle.state.specs.State.{latchesOf}
 use Rattle.page.proofs.EventLaws.{raised-alike}
 use Rattle.relay.specs.Calls.{raisedBy}
 use Rattle.relay.proofs.noting.events_now.Statement.{statement}
@@ -19,11 +16,8 @@ latches-requires c κs = search needs
 latches-requires-2 : tie.Need-latches-requires-2
 latches-requires-2 c κs = search needs
 
-without-requires : tie.Need-without-requires
-without-requires c κs = search needs
-
-some-requires : tie.Need-some-requires
-some-requires c κs = search needs
+is-new-requires : tie.Need-is-new-requires
+is-new-requires c κs = search needs
 
 raised-requires : tie.Need-raised-requires
 raised-requires c κs = search needs
@@ -31,20 +25,12 @@ raised-requires c κs = search needs
 returns : tie.Need-returns
 returns c =
     let trips = c .before in
-    let starts = trips .before .before .before .before in
+    let starts = trips .before .before .before in
     let a = starts .before .args in
-    let latches = trips .before .before in
-    let new-trips =
-    trips .some .ensures
-    ∙ ap (λ (b : Bits). some b)
-    (trips .before .without .ensures
-    ∙ ap (λ (b : Bits). without b (latches .latches2 .result)) (latches .before .latches .ensures)
-    ∙ ap (λ (b : Bits). without (latchesOf (a .trip)) b) (latches .latches2 .ensures)) in
+    let new-trips = rw (trips .before .before .latches .ensures, trips .before .latches2 .ensures) at (trips .is-new .ensures) in
     c .raised .ensures
-    ∙ raised-alike (a .r .events) (record { b0 = starts .new-start .result; b1 = trips .some .result; b2 = false }) (raisedBy (a .r) (a .m) (a .trip))
+    ∙ raised-alike (a .r .events) (record { b0 = starts .new-start .result; b1 = trips .is-new .result; b2 = false }) (raisedBy (a .r) (a .m) (a .trip))
     (starts .new-start .ensures) new-trips refl
 
 pub events-now-spec : {M : Type 1} → statement M
-events-now-spec =
-    tie.close
-    (tie.spec new-start-requires latches-requires latches-requires-2 without-requires some-requires raised-requires returns)
+events-now-spec = tie.close (tie.spec new-start-requires latches-requires latches-requires-2 is-new-requires raised-requires returns)
