@@ -1,5 +1,5 @@
 -- Event flags and the interrupt mask, which the relay record holds (document 02, card 2).
-use mathlib.Core.Bool.{Bool, cond}
+use mathlib.Core.Bool.{Bool, true, false, cond}
 use mathlib.Core.List.{List, [], _∷_}
 use Prim.Native.Nat.{ℕ, _%_}
 use lib.Dec.{leb, eqb}
@@ -19,7 +19,16 @@ within e = leb (e .flags) 7 ∷ leb (e .mask) 7 ∷ []
 abbrev pub new : (before now : Bits) → Bool
 new before now = some (without now before)
 
--- The flags: bit 0 new start, bit 1 new trip, bit 2 refused set. A flag that is raised stays so until it is cleared.
+-- The flags: bit 0 new start, bit 1 new trip, bit 2 refused set. Those that an accepted set raises, by the masks before it and now:
+abbrev pub newFlags : (startsBefore startsNow latchesBefore latchesNow : Bits) → Bits
+newFlags startsBefore startsNow latchesBefore latchesNow =
+    record { b0 = new startsBefore startsNow; b1 = new latchesBefore latchesNow; b2 = false }
+
+-- and a refused one:
+abbrev pub refusedSet : Bits
+refusedSet = record { b0 = false; b1 = false; b2 = true }
+
+-- A flag that is raised stays so until it is cleared.
 unfoldable pub raised : Bits → Events → Events
 raised b e = record { flags = maskOf (either (bitsOf (e .flags)) b); mask = e .mask }
 

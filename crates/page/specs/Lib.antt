@@ -1,3 +1,4 @@
 pub mod Events
 pub mod Page
+pub mod PageInput
 pub mod Worked

@@ -9,8 +9,11 @@ use Rattle.bits.specs.Bits.{maskOf}
 use Rattle.block.specs.Bytes.{bytes32}
 use Rattle.measuring.specs.declared.Reading.{Reading}
 use Rattle.measuring.specs.declared.Readings.{Readings}
+use Rattle.measuring.specs.Measuring.{readingsOf}
+use Rattle.setting.specs.declared.Setting.{Setting}
 use Rattle.state.specs.declared.Trip.{Trip}
-use Rattle.state.specs.State.{latchesOf}
+use Rattle.state.specs.declared.Window.{Window}
+use Rattle.state.specs.State.{full, latchesOf}
 use Rattle.page.specs.declared.Events.{Events}
 use Rattle.page.specs.Events.{interrupt}
 
@@ -37,12 +40,15 @@ page t m e =
     -- Others read zero.
     ++ replicate 32 0)
 
--- masks and currents unless the window is full: zero
+-- masks and currents of the last accepted set: zero unless the window is full
 abbrev zero : Reading
 zero = record { d = 0; r = 0; h2 = 0; h5 = 0; start = false; blocked = false }
 
 abbrev pub nothing : Readings
 nothing = record { a = zero; b = zero; c = zero }
+
+abbrev pub shown : Setting → Window → Readings
+shown v w = cond (full w) (readingsOf v (w .values)) nothing
 
 -- the bytes that show what is measured: 1, 2 and 8 to 31
 abbrev pub measuredAt : ℕ → Bool

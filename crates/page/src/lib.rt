@@ -1,5 +1,8 @@
 // The register page of the bay controller: event flags, the interrupt mask, and the byte at each offset.
 
+pub mod noting;
+pub mod showing;
+
 ghost use mathlib.Core.Path.{_≡_};
 ghost use Prim.Native.Nat.{_≤_};
 ghost use lib.ListN.{getD};
@@ -29,7 +32,7 @@ pub fn within(e: Events) -> bool
 }
 
 // Whether a bit is set that was not before: so a start or a trip is new.
-pub fn is_new(before: Bits, after: Bits) -> bool
+fn is_new(before: Bits, after: Bits) -> bool
     ensures { λ b. ⌜ b ≡ new before after ⌝ }
 {
     bits::some(bits::without(after, before))
@@ -90,7 +93,7 @@ fn interrupt(e: Events) -> u8
 }
 
 // The systems that start, and those that are blocked.
-pub fn starts(m: Readings) -> Bits
+fn starts(m: Readings) -> Bits
     ensures { λ b. ⌜ b ≡ startsOf m ⌝ }
 {
     Bits {
@@ -142,7 +145,7 @@ fn current_byte(t: Trip, m: Readings, e: Events, at: usize) -> u8
 }
 
 // The byte at an offset, zero past the end.
-pub fn byte(t: Trip, m: Readings, e: Events, at: usize) -> u8
+fn byte(t: Trip, m: Readings, e: Events, at: usize) -> u8
     ensures { λ b. ⌜ b ≡ getD (page t m e) at 0 ⌝ }
 {
     match at {
@@ -157,7 +160,7 @@ pub fn byte(t: Trip, m: Readings, e: Events, at: usize) -> u8
 }
 
 // Whether the byte at an offset shows what is measured.
-pub fn shows_measured(at: usize) -> bool
+fn shows_measured(at: usize) -> bool
     ensures { λ b. ⌜ b ≡ measuredAt at ⌝ }
 {
     if at < 8 {
@@ -170,7 +173,7 @@ pub fn shows_measured(at: usize) -> bool
 }
 
 // What is shown where the window is not full.
-pub fn nothing() -> Readings
+fn nothing() -> Readings
     ensures { λ m. ⌜ m ≡ nothingShown ⌝ }
 {
     let zero = Reading {

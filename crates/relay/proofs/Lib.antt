@@ -3,6 +3,5 @@ pub mod Cases
 pub mod Admission
 pub mod Settled
 pub mod Ready
-pub mod Noted
 pub mod Kept
 pub mod Induction

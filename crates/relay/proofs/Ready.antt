@@ -28,10 +28,11 @@ use Rattle.state.specs.declared.Window.{Window}
 use Rattle.state.proofs.Placed.{Sized, zero-sized, numbers-sized, windowWith-sized}
 use Rattle.relay.specs.declared.Relay.{Relay}
 use Rattle.relay.specs.Record.{admissible}
-use Rattle.relay.specs.CallInput.{Held}
 use Rattle.relay.specs.Calls.{inReach, setRows, accepted, windowAfter}
 use Rattle.relay.proofs.Admission.{is-T, admitted}
 use Rattle.matching.proofs.Total.{matched-bound}
+use Rattle.page.specs.PageInput.{Held}
+use Rattle.page.proofs.HeldLaws.{measurable}
 
 module _ (v : Setting) (xs : List ℤ) where
   reach-of : T (inReach xs) → InReach v xs
@@ -57,20 +58,6 @@ module _ (v : Setting) (xs : List ℤ) where
       by : (z : ℕ) (l : System) (b : Bool) → ltb z (v .ends) ≡ b → Sized (cond b (matchedAt v xs z l) (pos 0))
       by z l true e = within-≤ (matched-bound v s xs r z (ltb-true z (v .ends) e) l) (omega arith)
       by z l false e = zero-sized
-
--- numbers as large as a record may hold can be measured
-measurable : (v : Setting) → T (startable v) → (win : List ℤ) → length win ≡ 144 → Each Sized win → Measurable v win
-measurable v sound win long sized =
-    let s = startable-is v sound in
-    record {
-      ends = record { two = s .limits .two; four = s .limits .four };
-      sections = omega (arith, s .basic .most, s .knee .least);
-      window = record { long = long; small = each-get sized zero-sized };
-    }
-
--- so can the window that a record holds
-pub held-ready : {v : Setting} {w : Window} → Held v w → length (w .values) ≡ 144 → Measurable v (w .values)
-held-ready {v} {w} h long = measurable v (h .sound) (w .values) long (numbers-sized (h .small))
 
 module _ (r : Relay) (a : admissible r ≡ true) where
   pub factors-ready : Limits (r .setting)

@@ -10,13 +10,14 @@ use Rattle.measuring.specs.Measuring.{readingOf, readingsOf}
 use Rattle.state.specs.declared.Element.{Element}
 use Rattle.state.specs.declared.Window.{Window}
 use Rattle.relay.specs.declared.Relay.{Relay}
-use Rattle.state.specs.State.{elementAfter, latchesOf}
+use Rattle.state.specs.State.{elementAfter, latchesOf, full}
 use Rattle.state.proofs.Elements.{latch-kept}
 use Rattle.page.specs.declared.Events.{Events}
-use Rattle.page.specs.Events.{raised}
+use Rattle.page.specs.Events.{newFlags, raised}
+use Rattle.page.specs.Page.{startsOf}
 use Rattle.page.proofs.EventLaws.{no-bit, not-new, raised-none}
 use Rattle.relay.specs.Record.{admissible}
-use Rattle.relay.specs.Calls.{Reply, filling, measured, full, tripNow, shown, raisedBy, eventsNow, replyNow, relayNow}
+use Rattle.relay.specs.Calls.{Reply, filling, measured, startsBy, flagsNow, eventsNow, replyNow, relayNow}
 use Rattle.relay.proofs.Admission.{admitted}
 
 module _ (r : Relay) (w : Window) where
@@ -31,7 +32,7 @@ module _ (r : Relay) (w : Window) where
       M : ℕ
       M = r .setting .confirm
 
-      none-new : raisedBy r (shown (r .setting) w) (tripNow r w) ≡ no-bit
+      none-new : flagsNow r w ≡ no-bit
       none-new =
           let t = r .trip in
           rw (e, latch-kept M (t .a), latch-kept M (t .b), latch-kept M (t .c), not-new (latchesOf t))
@@ -59,7 +60,7 @@ module _ (r : Relay) (w : Window) where
     unfolding replyNow readingsOf readingOf
     measured-reply = rw (p, q, s, e, full-now)
 
-    pub measured-relay : {n : Events} → n ≡ raised (raisedBy r m (record { a = a; b = b; c = c })) (r .events) →
+    pub measured-relay : {n : Events} → n ≡ raised (newFlags (startsBy r (r .window)) (startsOf m) (latchesOf (r .trip)) (latchesOf (record { a = a; b = b; c = c }))) (r .events) →
         _≡_ {A = Relay} (record { setting = r .setting; window = w; trip = record { a = a; b = b; c = c }; events = n }) (relayNow r w)
     unfolding relayNow readingsOf readingOf
     measured-relay n = rw (n, p, q, s, e, full-now)

@@ -26,12 +26,11 @@ use Rattle.relay.specs.declared.Answer.the-variants.{Filling, Measured, 
 use Rattle.relay.specs.declared.Sampled.{Sampled}
 use Rattle.relay.specs.declared.Returned.{Returned}
 use Rattle.characteristic.specs.Characteristic.{counts}
-use Rattle.measuring.specs.declared.Readings.{Readings}
-use Rattle.measuring.specs.Measuring.{differential, start, blocked, readingOf, readingsOf}
-use Rattle.state.specs.State.{elementOf, perSystem, elementAfter, clear, latchesOf, windowWith}
+use Rattle.measuring.specs.Measuring.{differential, start, blocked, readingOf}
+use Rattle.state.specs.State.{elementOf, perSystem, elementAfter, clear, latchesOf, windowWith, full}
 use Rattle.page.specs.declared.Events.{Events}
-use Rattle.page.specs.Events.{new, raised}
-use Rattle.page.specs.Page.{startsOf, nothing}
+use Rattle.page.specs.Events.{newFlags, refusedSet, raised}
+use Rattle.page.specs.Page.{startsOf, shown}
 use Rattle.relay.specs.Record.{fresh, admissible, withEvents}
 
 -- ---- which sets are accepted
@@ -71,10 +70,6 @@ pub data Reply : Type 0 where
 abbrev pub windowAfter : Relay → List ℤ → Window
 windowAfter r xs = windowWith (r .window) (numbers (r .setting) xs)
 
--- it holds twelve
-abbrev pub full : Window → Bool
-full w = eqb (w .fill) 12
-
 -- whether a system counts; at a set that answers Filling none does
 abbrev pub counting : Setting → Window → System → Bool
 counting v w l = full w && counts v (differential v (w .values) l) (start v (w .values) l) (blocked v (w .values) l)
@@ -92,27 +87,23 @@ measureNow r w l = record { reading = readingOf (r .setting) (w .values) l; latc
 unfoldable pub replyNow : Relay → Window → Reply
 replyNow r w = cond (full w) (measured (measureNow r w sysA) (measureNow r w sysB) (measureNow r w sysC)) (filling (w .fill))
 
--- ---- what is shown after a call, and the flags that a sample call raises (02, card 2)
+-- ---- the record after it, with the flags that it raises (02, card 2)
 
--- masks and currents of the last accepted set: zero unless the window is full
-abbrev pub shown : Setting → Window → Readings
-shown v w = cond (full w) (readingsOf v (w .values)) nothing
+-- the systems that start by a window of the record's setting
+abbrev pub startsBy : Relay → Window → Bits
+startsBy r w = startsOf (shown (r .setting) w)
 
--- the flags that an accepted set raises, by what it shows and the latches after it: a start or trip is new when its bit was 0 after the call before
-abbrev pub raisedBy : Relay → Readings → Trip → Bits
-raisedBy r m t =
-    record { b0 = new (startsOf (shown (r .setting) (r .window))) (startsOf m); b1 = new (latchesOf (r .trip)) (latchesOf t); b2 = false }
+-- an accepted set raises what is new by the masks of the record that came in, and of the one that is left
+abbrev pub flagsNow : Relay → Window → Bits
+flagsNow r w = newFlags (startsBy r (r .window)) (startsBy r w) (latchesOf (r .trip)) (latchesOf (tripNow r w))
 
 abbrev pub eventsNow : Relay → Window → Events
-eventsNow r w = raised (raisedBy r (shown (r .setting) w) (tripNow r w)) (r .events)
+eventsNow r w = raised (flagsNow r w) (r .events)
 
 unfoldable pub relayNow : Relay → Window → Relay
 relayNow r w = record { setting = r .setting; window = w; trip = tripNow r w; events = eventsNow r w }
 
 -- a refused set raises flag bit 2, and leaves all else of the record as before
-abbrev pub refusedSet : Bits
-refusedSet = record { b0 = false; b1 = false; b2 = true }
-
 unfoldable pub refusedRelay : Relay → Relay
 refusedRelay r = withEvents r (raised refusedSet (r .events))
 

@@ -8,14 +8,14 @@ use lib.ListN.{getD}
 use Rattle.refusal.specs.Refusals.{numberOf, Outcome, gives, declines, byOutcome, Row, _when_, firstOf, firstRefusal}
 use Rattle.refusal.specs.Refusals as R
 use Rattle.page.specs.Events.{written as writtenEvents}
-use Rattle.page.specs.Page.{page}
+use Rattle.page.specs.Page.{page, shown}
 use Rattle.relay.specs.declared.Relay.{Relay}
 use Rattle.relay.specs.declared.PageByte.{PageByte}
 use Rattle.relay.specs.declared.PageByte.the-variants.{Byte, Refused}
 use Rattle.relay.specs.declared.PageRead.{PageRead}
 use Rattle.relay.specs.declared.Returned.{Returned}
 use Rattle.relay.specs.Record.{admissible, withEvents}
-use Rattle.relay.specs.Calls.{shown, cleared}
+use Rattle.relay.specs.Calls.{cleared}
 
 -- the page of a record: the latched mask is the record's; other masks and currents are those of the last accepted set, zero unless the window is full
 abbrev pub pageOf : Relay → List ℕ

@@ -14,7 +14,6 @@ use crate::Relay;
 use crate::Returned;
 use crate::Sampled;
 use crate::accepting;
-use crate::noting;
 use crate::starting;
 use bits::Bits;
 use measuring::Reading;
@@ -84,7 +83,7 @@ fn measured(r: Relay, w: Window) -> Sampled
     let b = element_now(v, in_b, t.b);
     let c = element_now(v, in_c, t.c);
     let trip = Trip { a: a, b: b, c: c };
-    let events = noting::events_after(r, m, trip);
+    let events = page::noting::events_after(v, r.window, t, r.events, m, trip);
     let of_a = Measure {
         reading: in_a,
         latched: a.latch,

@@ -2,7 +2,6 @@
 
 pub mod accepting;
 pub mod calls;
-pub mod noting;
 pub mod paging;
 pub mod starting;
 

@@ -1,45 +1,17 @@
 // The register page, read and written a byte at a time. Both take the record by value and hand it back beside the answer.
 
 ghost use mathlib.Core.Path.{_≡_};
-ghost use mathlib.Core.Bool.{true, _||_};
+ghost use mathlib.Core.Bool.{_||_};
 ghost use lib.Dec.{eqb};
-ghost use lib.ListN.{getD};
-ghost use Rattle.relay.specs.Record.{admissible};
-ghost use Rattle.relay.specs.Calls.{shown as shownOf};
-ghost use Rattle.relay.specs.Page.{pageOf, resets as resetsOf, written as writtenOf, Reads, Writes};
+ghost use Rattle.relay.specs.Page.{resets as resetsOf, written as writtenOf, Reads, Writes};
 use crate::PageByte;
 use crate::PageRead;
 use crate::Relay;
 use crate::Returned;
 use crate::accepting;
 use crate::calls;
-use measuring::Readings;
 use refusal::Refusal;
 use refusal::Verdict;
-
-// Masks and currents of the last accepted set, zero unless the window is full.
-fn shown(r: Relay) -> Readings
-    requires { ⌜ admissible r ≡ true ⌝ }
-    ensures { λ m. ⌜ m ≡ shownOf (r .setting) (r .window) ⌝ }
-{
-    let w = r.window;
-    if w.fill < 12 {
-        return page::nothing();
-    }
-    let values = w.values;
-    measuring::measure(r.setting, &values)
-}
-
-// The byte at an offset; nothing is measured where the byte does not show it.
-fn byte_at(r: Relay, offset: usize) -> u8
-    requires { ⌜ admissible r ≡ true ⌝ }
-    ensures { λ b. ⌜ b ≡ getD (pageOf r) offset 0 ⌝ }
-{
-    if page::shows_measured(offset) {
-        return page::byte(r.trip, shown(r), r.events, offset);
-    }
-    page::byte(r.trip, page::nothing(), r.events, offset)
-}
 
 // 1 written to byte 7.
 fn resets(offset: usize, byte: u8) -> bool
@@ -95,7 +67,14 @@ impl Relay {
         if !accepting::admissible(self) {
             return answered(self, PageByte::Refused(Refusal::Record));
         }
-        answered(self, PageByte::Byte(byte_at(self, offset)))
+        let byte = page::showing::byte_at(
+            self.setting,
+            self.window,
+            self.trip,
+            self.events,
+            offset,
+        );
+        answered(self, PageByte::Byte(byte))
     }
 
     // A byte written to the register page: 15, 16, 12. Bytes 3, 4 and 7 are written.

@@ -12,10 +12,10 @@ use Rattle.setting.specs.declared.Setting.{Setting}
 use Rattle.setting.specs.Values.{startable}
 use Rattle.matching.specs.Sets.{numbers}
 use Rattle.state.specs.declared.Window.{Window}
-use Rattle.page.specs.Page.{page}
+use Rattle.page.specs.Page.{page, shown}
 use Rattle.relay.specs.declared.Relay.{Relay}
 use Rattle.relay.specs.Record.{fresh}
-use Rattle.relay.specs.Calls.{setRows, windowAfter, replyNow, shown, relayNow, refusedRelay, cleared}
+use Rattle.relay.specs.Calls.{setRows, windowAfter, replyNow, relayNow, refusedRelay, cleared}
 use Rattle.relay.specs.Page.{beyond}
 use Rattle.relay.specs.Lists.{Call, run}
 use Rattle.relay.proofs.Cases.{sample-reply, reset-gives, read-reply, write-reply}

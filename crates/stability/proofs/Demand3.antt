@@ -34,14 +34,14 @@ use Rattle.characteristic.proofs.Bound.{quiet-bound}
 use Rattle.measuring.specs.Window.{sums}
 use Rattle.measuring.specs.Measuring.{differential, start, blocked, readingOf, readingsOf}
 use Rattle.state.specs.declared.Window.{Window}
-use Rattle.state.specs.State.{elementOf, perSystem, clear, latchesOf}
+use Rattle.state.specs.State.{elementOf, perSystem, clear, latchesOf, full}
 use Rattle.bits.specs.declared.Bits.{Bits}
 use Rattle.bits.specs.Bits.{bitsOf}
-use Rattle.page.specs.Events.{new, raised, written}
+use Rattle.page.specs.Events.{newFlags, refusedSet, raised, written}
 use Rattle.page.specs.Page.{startsOf, nothing}
 use Rattle.page.proofs.EventLaws.{no-bit, raised-none, raised-flags, written-lower}
 use Rattle.state.proofs.Elements.{per-system, no-latch-after}
-use Rattle.relay.specs.Calls.{accepted, full, counting, elementNow, tripNow, measureNow, replyNow, shown, raisedBy, eventsNow, relayNow, refusedSet, refusedRelay}
+use Rattle.relay.specs.Calls.{accepted, counting, elementNow, tripNow, measureNow, replyNow, startsBy, flagsNow, eventsNow, relayNow, refusedRelay}
 use Rattle.relay.specs.Calls.{cleared, filling, measured}
 use Rattle.relay.specs.Page.{beyond, fixed}
 use Rattle.matching.proofs.Total.{total-bound}
@@ -142,7 +142,7 @@ module _ (v : Setting) (s : T (startable v)) where
       latch-no l = rw (h .same) (no-latch-after (v .confirm) (elementOf (r .trip) l) (counting-no l) (still .no-latch l))
 
       -- no start is new, and no trip
-      starts-none : startsOf (shown (r .setting) (held ws)) ≡ no-bit
+      starts-none : startsBy r (held ws) ≡ no-bit
       unfolding readingsOf readingOf
       starts-none = rw (h .same) (by (full (held ws)) refl)
         where
@@ -153,9 +153,8 @@ module _ (v : Setting) (s : T (startable v)) where
       latches-none : latchesOf (tripNow r (held ws)) ≡ no-bit
       latches-none = λ i. record { b0 = latch-no sysA i; b1 = latch-no sysB i; b2 = latch-no sysC i }
 
-      none-new : raisedBy r (shown (r .setting) (held ws)) (tripNow r (held ws)) ≡ no-bit
-      none-new =
-          λ i. record { b0 = new (startsOf (shown (r .setting) (r .window))) (starts-none i); b1 = new (latchesOf (r .trip)) (latches-none i); b2 = false }
+      none-new : flagsNow r (held ws) ≡ no-bit
+      none-new = λ i. newFlags (startsBy r (r .window)) (starts-none i) (latchesOf (r .trip)) (latches-none i)
 
       -- so the events stay as they were
       events-same : eventsNow r (held ws) ≡ r .events

@@ -1,17 +1,16 @@
 -- Event flags and interrupt mask over lists of calls. The invariant: each system is traced by the log's sets and counts (TripLaws.antt), so that starts and
 -- latches by the record are those by the log; and the events are the log's.
 use mathlib.Core.Path.{_≡_, refl, ap, _∙_}
-use mathlib.Core.Bool.{false}
 use mathlib.Core.List.{[]}
 use Rattle.setting.specs.declared.Setting.{Setting}
 use Rattle.matching.specs.Sets.{System, sysA, sysB, sysC}
 use Rattle.state.specs.declared.Window.{Window}
 use Rattle.state.specs.State.{latchesOf}
-use Rattle.page.specs.Events.{new, raised, written}
-use Rattle.page.specs.Page.{startsOf}
+use Rattle.page.specs.Events.{newFlags, refusedSet, raised, written}
+use Rattle.page.specs.Page.{startsOf, shown}
 use Rattle.relay.specs.declared.Relay.{Relay}
 use Rattle.relay.specs.Record.{fresh}
-use Rattle.relay.specs.Calls.{windowAfter, shown, eventsNow, relayNow, refusedSet, refusedRelay, cleared}
+use Rattle.relay.specs.Calls.{windowAfter, startsBy, eventsNow, relayNow, refusedRelay, cleared}
 use Rattle.relay.specs.Lists.{Call, sample}
 use Rattle.relay.proofs.Cases.{resets-at}
 use Rattle.relay.proofs.Kept.{Valid, Step, files, declines, clears, reads, resets-by-page, writes}
@@ -41,14 +40,11 @@ module _ (v : Setting) where
   unfolding relayNow refusedRelay cleared
   events-kept {g} {r} h k t (files {xs = xs} e o) =
       let after = counting v g (sample xs) in
-      let same : (w : Window) → startsOf (shown (r .setting) w) ≡ startsOf (shown v w) = λ w. ap (λ (u : Setting). startsOf (shown u w)) (h .same) in
+      let same : (w : Window) → startsBy r w ≡ startsOf (shown v w) = λ w. ap (λ (u : Setting). startsOf (shown u w)) (h .same) in
       let start = same (r .window) ∙ starts-at g (k .traced) in
       let start-now = same (windowAfter r xs) ∙ starts-at after t in
-      let raises = raised (record { b0 = new (startsAt v g) (startsAt v after); b1 = new (latchesAt v g) (latchesAt v after); b2 = false }) (g .events) in
-      let is : eventsNow r (windowAfter r xs) ≡ raises =
-      λ i. raised
-      (record { b0 = new (start i) (start-now i); b1 = new (latches-at g (k .traced) i) (latches-at after t i); b2 = false })
-      (k .events i) in
+      let is : eventsNow r (windowAfter r xs) ≡ raised (newFlags (startsAt v g) (startsAt v after) (latchesAt v g) (latchesAt v after)) (g .events) =
+      λ i. raised (newFlags (start i) (start-now i) (latches-at g (k .traced) i) (latches-at after t i)) (k .events i) in
       is ∙ rw e
   events-kept h k t (declines e o) = rw e (ap (raised refusedSet) (k .events))
   events-kept h k t (clears o) = k .events

@@ -26,11 +26,12 @@ use Rattle.measuring.specs.declared.Reading.{Reading}
 use Rattle.measuring.specs.Measuring.{readingOf, readingsOf}
 use Rattle.measuring.proofs.Negated.{series-negated, sums-negated, difference-negated, reading-same}
 use Rattle.state.specs.declared.Window.{Window}
-use Rattle.state.specs.State.{numberWithin, afterHeld, atEnd, windowWith}
+use Rattle.state.specs.State.{numberWithin, afterHeld, atEnd, windowWith, full}
 use Rattle.relay.specs.declared.Relay.{Relay}
 use Rattle.page.specs.Events.{written as writtenEvents}
+use Rattle.page.specs.Page.{shown}
 use Rattle.relay.specs.Record.{fresh, admissible, withEvents}
-use Rattle.relay.specs.Calls.{setRows, sampleRows, windowAfter, full, counting, measureNow, replyNow, shown, eventsNow, relayNow, refusedRelay, leftAt}
+use Rattle.relay.specs.Calls.{setRows, sampleRows, windowAfter, counting, measureNow, replyNow, eventsNow, relayNow, refusedRelay, leftAt}
 use Rattle.relay.specs.Calls.{sampleReply, sampleRelay}
 use Rattle.relay.specs.Calls.{resetRows, cleared, resetReply, resetRelay}
 use Rattle.relay.specs.Page.{readRows, readReply, writeRows, resets, written, writeReply, writeRelay}

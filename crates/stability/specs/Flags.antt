@@ -10,10 +10,10 @@ use Rattle.setting.specs.Values.{startable}
 use Rattle.matching.specs.Sets.{System, sysA, sysB, sysC}
 use Rattle.state.specs.Rows.{afterSets}
 use Rattle.page.specs.declared.Events.{Events}
-use Rattle.page.specs.Events.{quiet, new, raised, written}
-use Rattle.page.specs.Page.{startsOf}
+use Rattle.page.specs.Events.{quiet, newFlags, refusedSet, raised, written}
+use Rattle.page.specs.Page.{startsOf, shown}
 use Rattle.relay.specs.Record.{fresh}
-use Rattle.relay.specs.Calls.{accepted, shown, refusedSet}
+use Rattle.relay.specs.Calls.{accepted}
 use Rattle.relay.specs.Lists.{Call, sample, reset, read, write, run}
 use Rattle.stability.specs.Lists.{filing, last12, windowOf}
 use Rattle.stability.specs.Trips.{countedSince}
@@ -36,8 +36,7 @@ latchesAt v g =
 -- byte 3 or 4 changes flags or mask; nothing else does.
 abbrev pub eventsAfter : Setting → (before after : Log) → Call → Events
 eventsAfter v g h (sample xs) =
-    cond (accepted v xs) (raised (record { b0 = new (startsAt v g) (startsAt v h); b1 = new (latchesAt v g) (latchesAt v h); b2 = false }) (g .events))
-    (raised refusedSet (g .events))
+    cond (accepted v xs) (raised (newFlags (startsAt v g) (startsAt v h) (latchesAt v g) (latchesAt v h)) (g .events)) (raised refusedSet (g .events))
 eventsAfter v g h reset = g .events
 eventsAfter v g h (read offset) = g .events
 eventsAfter v g h (write offset byte) = written offset byte (g .events)

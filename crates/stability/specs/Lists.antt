@@ -12,8 +12,8 @@ use Rattle.setting.specs.Values.{startable}
 use Rattle.matching.specs.Sets.{numbers}
 use Rattle.state.specs.declared.Window.{Window}
 use Rattle.relay.specs.Record.{fresh}
-use Rattle.page.specs.Page.{page}
-use Rattle.relay.specs.Calls.{setRows, accepted, replyNow, shown, sampleReply, resetReply}
+use Rattle.page.specs.Page.{page, shown}
+use Rattle.relay.specs.Calls.{setRows, accepted, replyNow, sampleReply, resetReply}
 use Rattle.relay.specs.Page.{beyond, fixed, readReply, writeReply}
 use Rattle.relay.specs.Lists.{Call, sample, reset, read, write, run}
 

@@ -53,7 +53,11 @@ numberWithin x = leb (natAbs x) 800000
 abbrev pub countersWithin : (M : ℕ) → Trip → List Bool
 countersWithin M t = leb (t .a .count) M ∷ leb (t .b .count) M ∷ leb (t .c .count) M ∷ []
 
--- ---- the window after a set
+-- ---- the window, and what a set makes of it
+
+-- it holds twelve
+abbrev pub full : Window → Bool
+full w = eqb (w .fill) 12
 
 -- its twelve numbers are filed after the sets held
 abbrev pub afterHeld : Window → List ℤ → Window

@@ -6,6 +6,7 @@ use Prim.Native.Nat.{ℕ}
 use Rattle.refusal.specs.Refusals.{gives}
 use Rattle.relay.specs.Record.{admissible}
 use Rattle.relay.specs.Page.{readRows}
+use Rattle.relay.proofs.Ready.{held}
 use borrow.Author.Needs.{needs}
 use Rattle.relay.proofs.Relay.read.Statement.{statement}
 use Rattle.relay.proofs.Relay.read.Tie as tie
@@ -36,7 +37,7 @@ returns-2 c =
     rw (c .answered2 .ensures) (record { reply = rw (lt-leb 64 (else1 .before .args .offset) (else1 .if1 .left), e); relay = refl })
 
 byte-at-requires : tie.Need-byte-at-requires
-byte-at-requires c κs = admitted c
+byte-at-requires c κs = held (c .before .before .before .args .self) (admitted c)
 
 answered-requires-3 : tie.Need-answered-requires-3
 answered-requires-3 c κs = search needs

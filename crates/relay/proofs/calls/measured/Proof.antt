@@ -1,6 +1,8 @@
 -- `relay::calls::measured` meets its contract: what is measured, and the counters and latches after it, are those of the definitions.
 use borrow.Author.Needs.{needs}
 use mathlib.Core.Path.{_∙_}
+use Rattle.relay.proofs.Admission.{admitted}
+use Rattle.relay.proofs.Ready.{held}
 use Rattle.relay.proofs.Settled.{measured-reply, measured-relay}
 use Rattle.relay.proofs.calls.measured.Statement.{statement}
 use Rattle.relay.proofs.calls.measured.Tie as tie
@@ -21,7 +23,10 @@ element-now-requires-3 : tie.Need-element-now-requires-3
 element-now-requires-3 c κs = search needs
 
 events-after-requires : tie.Need-events-after-requires
-events-after-requires c κs = search needs
+events-after-requires c κs =
+    let start = c .before .before .before .before .before .before .before .before .before .before .before in
+    let a = start .pre .admitted in
+    record { held = held (start .args .r) a; events = admitted (start .args .r) a 4 }
 
 filed-requires : tie.Need-filed-requires
 filed-requires c κs = search needs

@@ -1,20 +1,18 @@
 // The event flags after a measured set. What started before the set is worked out only where a system starts now and the flag is not raised yet.
 
 ghost use mathlib.Core.Path.{_≡_};
-ghost use mathlib.Core.Bool.{true, not, _&&_, _||_};
+ghost use mathlib.Core.Bool.{not, _&&_, _||_};
 ghost use Rattle.matching.specs.Sets.{system};
 ghost use Rattle.bits.specs.Bits.{bitsOf};
 ghost use Rattle.measuring.specs.Measuring.{start, readingsOf};
 ghost use Rattle.measuring.specs.WindowInput.{Measurable, SystemInput};
-ghost use Rattle.page.specs.Events.{new, raised};
-ghost use Rattle.page.specs.Page.{startsOf};
-ghost use Rattle.relay.specs.Record.{admissible};
-ghost use Rattle.relay.specs.Calls.{shown, raisedBy};
-ghost use Rattle.relay.specs.CallInput.{Held, nothingNew};
-use crate::Relay;
+ghost use Rattle.state.specs.State.{latchesOf};
+ghost use Rattle.page.specs.Events.{new, newFlags, raised};
+ghost use Rattle.page.specs.Page.{startsOf, shown};
+ghost use Rattle.page.specs.PageInput.{Held, HeldWith, nothingNew};
+use crate::Events;
 use bits::Bits;
 use measuring::Readings;
-use page::Events;
 use setting::Setting;
 use state::Trip;
 use state::Window;
@@ -50,55 +48,61 @@ fn new_since(v: Setting, w: Window, m: Readings) -> bool
     ensures { λ b. ⌜ b ≡ new (startsOf (shown v w)) (startsOf m) ⌝ }
 {
     if w.fill < 12 {
-        return bits::some(page::starts(m));
+        return bits::some(crate::starts(m));
     }
     let values = w.values;
     one_starts_anew(v, &values, m)
 }
 
 // Whether the flag of a new start is to be raised; it is not looked at where it is.
-fn new_start(r: Relay, m: Readings) -> bool
-    requires { ⌜ admissible r ≡ true ⌝ }
-    ensures { λ b. let flag = bitsOf (r .events .flags) .b0 in ⌜ (flag || b) ≡ (flag || new (startsOf (shown (r .setting) (r .window))) (startsOf m)) ⌝ }
+fn new_start(v: Setting, w: Window, e: Events, m: Readings) -> bool
+    requires { ⌜ Held v w ⌝ }
+    ensures { λ b. let flag = bitsOf (e .flags) .b0 in ⌜ (flag || b) ≡ (flag || new (startsOf (shown v w)) (startsOf m)) ⌝ }
 {
-    let flags = bits::bits_of(r.events.flags);
+    let flags = bits::bits_of(e.flags);
     if flags.b0 {
         return false;
     }
-    new_since(r.setting, r.window, m)
+    new_since(v, w, m)
 }
 
 // Whether a set raises no flag, without a look at what started before it: no system starts, and no latch is new.
 fn nothing_new(m: Readings, before: Trip, after: Trip) -> bool
     ensures { λ b. ⌜ b ≡ nothingNew m before after ⌝ }
 {
-    if bits::some(page::starts(m)) {
+    if bits::some(crate::starts(m)) {
         return false;
     }
-    !page::is_new(state::latches(before), state::latches(after))
+    !crate::is_new(state::latches(before), state::latches(after))
 }
 
-// The events after a set that measures m and leaves these latches.
-fn events_now(r: Relay, m: Readings, trip: Trip) -> Events
-    requires { ⌜ admissible r ≡ true ⌝ }
-    ensures { λ e. ⌜ e ≡ raised (raisedBy r m trip) (r .events) ⌝ }
+// The events after a set that measures m and leaves the latches after, from the setting, the window, the latches and the events before it.
+fn events_now(v: Setting, w: Window, before: Trip, e: Events, m: Readings, after: Trip) -> Events
+    requires { ⌜ Held v w ⌝ }
+    ensures { λ n. ⌜ n ≡ raised (newFlags (startsOf (shown v w)) (startsOf m) (latchesOf before) (latchesOf after)) e ⌝ }
 {
     let set = Bits {
-        b0: new_start(r, m),
-        b1: page::is_new(state::latches(r.trip), state::latches(trip)),
+        b0: new_start(v, w, e, m),
+        b1: crate::is_new(state::latches(before), state::latches(after)),
         b2: false,
     };
-    page::raised(set, r.events)
+    crate::raised(set, e)
 }
 
-// The same, with no look at the record where nothing is new.
-pub fn events_after(r: Relay, m: Readings, trip: Trip) -> Events
-    requires { ⌜ admissible r ≡ true ⌝ }
-    ensures { λ e. ⌜ e ≡ raised (raisedBy r m trip) (r .events) ⌝ }
+// The same, with no look at the window where nothing is new.
+pub fn events_after(
+    v: Setting,
+    w: Window,
+    before: Trip,
+    e: Events,
+    m: Readings,
+    after: Trip,
+) -> Events
+    requires { ⌜ HeldWith v w e ⌝ }
+    ensures { λ n. ⌜ n ≡ raised (newFlags (startsOf (shown v w)) (startsOf m) (latchesOf before) (latchesOf after)) e ⌝ }
 {
-    let kept = r.events;
-    if nothing_new(m, r.trip, trip) {
-        return kept;
+    if nothing_new(m, before, after) {
+        return e;
     }
-    events_now(r, m, trip)
+    events_now(v, w, before, e, m, after)
 }

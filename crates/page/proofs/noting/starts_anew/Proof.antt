@@ -1,10 +1,10 @@
--- `relay::noting::starts_anew` meets its contract.
+-- `page::noting::starts_anew` meets its contract.
 use borrow.Author.Needs.{needs}
 use borrow.Author.Tests.{not-true, not-false}
 use mathlib.Core.Path.{ap}
 use mathlib.Core.Bool.{not}
-use Rattle.relay.proofs.noting.starts_anew.Statement.{statement}
-use Rattle.relay.proofs.noting.starts_anew.Tie as tie
+use Rattle.page.proofs.noting.starts_anew.Statement.{statement}
+use Rattle.page.proofs.noting.starts_anew.Tie as tie
 
 returns : tie.Need-returns
 returns c = rw (not-true (c .before .args .starts) (c .if1 .taken))

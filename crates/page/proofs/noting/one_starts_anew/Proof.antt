@@ -1,8 +1,8 @@
--- `relay::noting::one_starts_anew` meets its contract: the first system that starts anew.
+-- `page::noting::one_starts_anew` meets its contract: the first system that starts anew.
 use borrow.Author.Needs.{needs}
 use Rattle.measuring.specs.Measuring.{readingOf, readingsOf}
-use Rattle.relay.proofs.noting.one_starts_anew.Statement.{statement}
-use Rattle.relay.proofs.noting.one_starts_anew.Tie as tie
+use Rattle.page.proofs.noting.one_starts_anew.Statement.{statement}
+use Rattle.page.proofs.noting.one_starts_anew.Tie as tie
 
 starts-anew-requires : tie.Need-starts-anew-requires
 starts-anew-requires c κs = search needs

@@ -1,12 +1,12 @@
--- `relay::noting::nothing_new` meets its contract, by those of its callees.
+-- `page::noting::nothing_new` meets its contract, by those of its callees.
 use borrow.Author.Needs.{needs}
 use mathlib.Core.Path.{_≡_, sym, ap, _∙_}
 use mathlib.Core.Bool.{not}
 use Rattle.bits.specs.declared.Bits.{Bits}
 use Rattle.bits.specs.Bits.{some}
 use Rattle.page.specs.Page.{startsOf}
-use Rattle.relay.proofs.noting.nothing_new.Statement.{statement}
-use Rattle.relay.proofs.noting.nothing_new.Tie as tie
+use Rattle.page.proofs.noting.nothing_new.Statement.{statement}
+use Rattle.page.proofs.noting.nothing_new.Tie as tie
 
 starts-requires : tie.Need-starts-requires
 starts-requires c κs = search needs

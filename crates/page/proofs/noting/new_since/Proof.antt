@@ -1,4 +1,4 @@
--- `relay::noting::new_since` meets its contract: nothing started unless the window was full; then the systems one by one.
+-- `page::noting::new_since` meets its contract: nothing started unless the window was full; then the systems one by one.
 use borrow.Author.Needs.{needs}
 use borrow.Author.Tests.{eq-eqb, ne-eqb}
 use native.Mathlib.Omega.{arith}
@@ -6,11 +6,11 @@ use mathlib.Core.Path.{_≡_, ap, _∙_}
 use lib.ListN.{length}
 use Rattle.bits.specs.declared.Bits.{Bits}
 use Rattle.bits.specs.Bits.{some}
 use Rattle.page.specs.Page.{startsOf}
-use Rattle.relay.proofs.Ready.{held-ready}
-use Rattle.relay.proofs.Noted.{all-new}
-use Rattle.relay.proofs.noting.new_since.Statement.{statement}
-use Rattle.relay.proofs.noting.new_since.Tie as tie
+use Rattle.page.proofs.HeldLaws.{held-ready}
+use Rattle.page.proofs.Noted.{all-new}
+use Rattle.page.proofs.noting.new_since.Statement.{statement}
+use Rattle.page.proofs.noting.new_since.Tie as tie
 
 starts-requires : tie.Need-starts-requires
 starts-requires c κs = search needs

@@ -1,12 +1,11 @@
--- `relay::paging::byte_at` meets its contract: a byte that shows nothing measured is the same whatever is measured.
+-- `page::showing::byte_at` meets its contract: a byte that shows nothing measured is the same whatever is measured.
 use mathlib.Core.Path.{_≡_, sym, _∙_}
 use mathlib.Core.Bool.{false}
-use Rattle.page.specs.Page.{nothing, measuredAt}
+use Rattle.page.specs.Page.{nothing, shown, measuredAt}
 use Rattle.page.proofs.Offsets.{unmeasured}
-use Rattle.relay.specs.Calls.{shown}
 use borrow.Author.Needs.{needs}
-use Rattle.relay.proofs.paging.byte_at.Statement.{statement}
-use Rattle.relay.proofs.paging.byte_at.Tie as tie
+use Rattle.page.proofs.showing.byte_at.Statement.{statement}
+use Rattle.page.proofs.showing.byte_at.Tie as tie
 
 shows-measured-requires : tie.Need-shows-measured-requires
 shows-measured-requires c κs = search needs
@@ -30,10 +29,9 @@ returns-2 : tie.Need-returns-2
 returns-2 c =
     let else1 = c .before .before in
     let start = else1 .before .before in
-    let r = start .args .r in
-    let hidden : measuredAt (start .args .offset) ≡ false = sym (else1 .before .shows-measured .ensures) ∙ else1 .if1 .left in
-    c .byte2 .ensures
-    ∙ rw (c .before .nothing .ensures) (unmeasured (r .trip) nothing (shown (r .setting) (r .window)) (r .events) (start .args .offset) hidden)
+    let a = start .args in
+    let hidden : measuredAt (a .offset) ≡ false = sym (else1 .before .shows-measured .ensures) ∙ else1 .if1 .left in
+    c .byte2 .ensures ∙ rw (c .before .nothing .ensures) (unmeasured (a .t) nothing (shown (a .v) (a .w)) (a .e) (a .offset) hidden)
 
 pub byte-at-spec : {M : Type 1} → statement M
 byte-at-spec =
