@@ -1,9 +1,7 @@
 -- `relay::Relay::read` meets its contract: 15, 12, or the byte.
 use borrow.Author.Tests.{le-leb, lt-leb, not-true, not-false}
-use mathlib.Core.Path.{_≡_, refl, sym, ap, _∙_}
+use mathlib.Core.Path.{_≡_, refl, sym, _∙_}
 use mathlib.Core.Bool.{true}
-use Prim.Native.Nat.{ℕ}
-use Rattle.refusal.specs.Refusals.{gives}
 use Rattle.relay.specs.Record.{admissible}
 use Rattle.relay.specs.Page.{readRows}
 use Rattle.relay.proofs.Ready.{held}
@@ -47,8 +45,8 @@ unfolding readRows
 returns-3 c =
     let else2 = c .before .before in
     let else1 = else2 .before .before in
-    let byte = ap (λ (n : ℕ). gives n) (c .before .byte-at .ensures) in
-    rw (c .answered3 .ensures) (record { reply = rw (lt-leb 64 (else1 .before .args .offset) (else1 .if1 .left), admitted else2) byte; relay = refl })
+    let passed = lt-leb 64 (else1 .before .args .offset) (else1 .if1 .left) in
+    rw (c .answered3 .ensures) (record { reply = rw (passed, admitted else2, c .before .byte-at .ensures); relay = refl })
 
 pub read-spec : {M : Type 1} → statement M
 read-spec = tie.close (tie.spec answered-requires returns admissible-requires answered-requires-2 returns-2 byte-at-requires answered-requires-3 returns-3)
