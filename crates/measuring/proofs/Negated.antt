@@ -34,7 +34,7 @@ module _ (v : Setting) (win : List ℤ) where
   over-ends (suc n) l =
       rw (over-ends n l, amplitude-negated (series (map negℤ win) n l) (series win n l) (λ k m. series-negated win n l k) 1)
 
-  restraint-same : (l : System) → twiceRestraint v (map negℤ win) l ≡ twiceRestraint v win l
+  restraint-same : (l : System) → twiceRestraint (v .ends) (map negℤ win) l ≡ twiceRestraint (v .ends) win l
   unfolding twiceRestraint
   restraint-same l =
       rw (over-ends (v .ends) l, amplitude-negated (difference (map negℤ win) l) (difference win l) (λ k m. difference-negated win l k) 1)

@@ -29,12 +29,11 @@ sumℕ zero f = 0
 sumℕ (suc n) f = sumℕ n f + f n
 
 -- R is twice the restraint: for E = 2 the h = 1 amplitude of end 0 minus end 1; else the sum of each end's.
-unfoldable pub twiceRestraint : Setting → List ℤ → System → ℕ
-twiceRestraint v win l =
-    cond (eqb (v .ends) 2) (amplitude 1 (difference win l)) (sumℕ (v .ends) (λ z. amplitude 1 (series win z l)))
+unfoldable pub twiceRestraint : (ends : ℕ) → List ℤ → System → ℕ
+twiceRestraint E win l = cond (eqb E 2) (amplitude 1 (difference win l)) (sumℕ E (λ z. amplitude 1 (series win z l)))
 
 abbrev pub start : Setting → List ℤ → System → Bool
-start v win l = starts v (differential v win l) (twiceRestraint v win l)
+start v win l = starts v (differential v win l) (twiceRestraint (v .ends) win l)
 
 unfoldable pub harmonics : Setting → List ℤ → System → Bool
 harmonics v win l = hasHarmonics v (differential v win l) (second v win l) (fifth v win l)
@@ -43,16 +42,17 @@ harmonics v win l = hasHarmonics v (differential v win l) (second v win l) (fift
 unfoldable pub blocked : Setting → List ℤ → System → Bool
 blocked v win l = harmonics v win l || (commonOn v && (harmonics v win sysA || (harmonics v win sysB || harmonics v win sysC)))
 
--- the four currents of a system
-unfoldable pub currentsOf : Setting → List ℤ → System → Currents
-currentsOf v win l = record { d = differential v win l; r = twiceRestraint v win l; h2 = second v win l; h5 = fifth v win l }
+-- the four currents of a system, which take no more of a setting than its number of ends
+unfoldable pub currentsOf : (ends : ℕ) → List ℤ → System → Currents
+currentsOf E win l =
+    let u = sums E win l in record { d = amplitude 1 u; r = twiceRestraint E win l; h2 = amplitude 2 u; h5 = amplitude 5 u }
 
 -- what is reported of a system, but for its latch
 unfoldable pub readingOf : Setting → List ℤ → System → Reading
 readingOf v win l =
     record {
       d = differential v win l;
-      r = twiceRestraint v win l;
+      r = twiceRestraint (v .ends) win l;
       h2 = second v win l;
       h5 = fifth v win l;
       start = start v win l;

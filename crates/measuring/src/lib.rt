@@ -100,11 +100,10 @@ fn sums(win: &[i32], ends: u8, y: usize) -> [i32; 12]
 }
 
 // R, twice the restraint.
-fn twice_restraint(v: Setting, win: &[i32], y: usize) -> u32
-    requires { ⌜ SystemInput v (now win) y ⌝ }
-    ensures { λ r. ⌜ r ≡ twiceRestraint v (now (win .entry)) (system y) ⌝ }
+fn twice_restraint(ends: u8, win: &[i32], y: usize) -> u32
+    requires { ⌜ SumInput (now win) ends 0 y ⌝ }
+    ensures { λ r. ⌜ r ≡ twiceRestraint ends (now (win .entry)) (system y) ⌝ }
 {
-    let ends = v.ends;
     if ends == 2 {
         return amplitude::amplitude(difference(win, y), Harmonic::First);
     }
@@ -118,14 +117,14 @@ fn twice_restraint(v: Setting, win: &[i32], y: usize) -> u32
 }
 
 // D, R, H2 and H5 of system y.
-fn system_currents(v: Setting, win: &[i32], y: usize) -> Currents
-    requires { ⌜ SystemInput v (now win) y ⌝ }
-    ensures { λ r. ⌜ r ≡ currentsOf v (now (win .entry)) (system y) ⌝ }
+fn system_currents(ends: u8, win: &[i32], y: usize) -> Currents
+    requires { ⌜ SumInput (now win) ends 0 y ⌝ }
+    ensures { λ r. ⌜ r ≡ currentsOf ends (now (win .entry)) (system y) ⌝ }
 {
-    let u = sums(win, v.ends, y);
+    let u = sums(win, ends, y);
     Currents {
         d: amplitude::amplitude(u, Harmonic::First),
-        r: twice_restraint(v, win, y),
+        r: twice_restraint(ends, win, y),
         h2: amplitude::amplitude(u, Harmonic::Second),
         h5: amplitude::amplitude(u, Harmonic::Fifth),
     }
@@ -136,7 +135,7 @@ pub fn started(v: Setting, win: &[i32], y: usize) -> bool
     requires { ⌜ SystemInput v (now win) y ⌝ }
     ensures { λ b. ⌜ b ≡ start v (now (win .entry)) (system y) ⌝ }
 {
-    characteristic::starts(v, system_currents(v, win, y))
+    characteristic::starts(v, system_currents(v.ends, win, y))
 }
 
 fn or(a: bool, b: bool) -> bool
@@ -181,9 +180,10 @@ pub fn measure(v: Setting, win: &[i32]) -> Readings
     requires { ⌜ Measurable v (now win) ⌝ }
     ensures { λ r. ⌜ r ≡ readingsOf v (now (win .entry)) ⌝ }
 {
-    let a = system_currents(v, win, 0);
-    let b = system_currents(v, win, 1);
-    let c = system_currents(v, win, 2);
+    let ends = v.ends;
+    let a = system_currents(ends, win, 0);
+    let b = system_currents(ends, win, 1);
+    let c = system_currents(ends, win, 2);
     let in_a = characteristic::harmonics(v, a);
     let in_b = characteristic::harmonics(v, b);
     let in_c = characteristic::harmonics(v, c);

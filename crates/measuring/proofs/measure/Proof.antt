@@ -44,7 +44,7 @@ system-reading-requires-3 : tie.Need-system-reading-requires-3
 system-reading-requires-3 c κs = search needs
 
 -- a system's currents are those of the definitions, so its harmonics and its reading are
-module _ (v : Setting) (win : List ℤ) (l : System) {cur : Currents} (e : cur ≡ currentsOf v win l) where
+module _ (v : Setting) (win : List ℤ) (l : System) {cur : Currents} (e : cur ≡ currentsOf (v .ends) win l) where
   harmonics-is : {b : Bool} → b ≡ hasHarmonics v (cur .d) (cur .h2) (cur .h5) → b ≡ harmonics v win l
   unfolding currentsOf harmonics
   harmonics-is h = h ∙ rw e

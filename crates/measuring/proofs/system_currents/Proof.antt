@@ -14,8 +14,8 @@ sums-requires c κs = search needs
 
 u-sized : (c : tie.After-sums) → CycleInput (c .sums .result)
 u-sized c =
-    let pre = c .before .pre .measurable in
-    sized _ (c .sums .ensures) (sums-small (pre .window) _ (pre .ends .four) (system (c .before .args .y)))
+    let pre = c .before .pre in
+    sized _ (c .sums .ensures) (sums-small (pre .place .window) _ (pre .ends .four) (system (c .before .args .y)))
 
 amplitude-requires : tie.Need-amplitude-requires
 amplitude-requires c κs = u-sized c

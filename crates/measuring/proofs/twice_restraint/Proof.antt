@@ -18,22 +18,22 @@ use Rattle.measuring.proofs.twice_restraint.Statement.{statement}
 use Rattle.measuring.proofs.twice_restraint.Tie as tie
 
 abbrev Inv-loop : tie.InvT-loop
-Inv-loop win y ends r₀ z₀ r z = (z ≤ ends) × ((r ≡ sumℕ z (λ z. amplitude 1 (series win z (system y)))) × (r ≤ 6400000 * z))
+Inv-loop ends win y r₀ z₀ r z = (z ≤ ends) × ((r ≡ sumℕ z (λ z. amplitude 1 (series win z (system y)))) × (r ≤ 6400000 * z))
 
 abbrev μ-loop : tie.MeasureT-loop
-μ-loop win y ends r₀ z₀ r z = ends - z
+μ-loop ends win y r₀ z₀ r z = ends - z
 
 difference-requires : tie.Need-difference-requires Inv-loop μ-loop
 difference-requires c κs = search needs
 
 amplitude-requires : tie.Need-amplitude-requires Inv-loop μ-loop
-amplitude-requires c κs = sized _ (c .difference .ensures) (difference-small (c .before .before .pre .measurable .window) (system (c .before .before .args .y)))
+amplitude-requires c κs = sized _ (c .difference .ensures) (difference-small (c .before .before .pre .place .window) (system (c .before .before .args .y)))
 
 returns : tie.Need-returns Inv-loop μ-loop
 unfolding twiceRestraint
 returns c =
     let start = c .before .before .before in
-    let ends : eqb (start .args .v .ends) 2 ≡ true = eq-eqb _ _ (c .before .before .if1 .taken) in
+    let ends : eqb (start .args .ends) 2 ≡ true = eq-eqb _ _ (c .before .before .if1 .taken) in
     c .amplitude .ensures .is ∙ amplitude-is _ (c .before .difference .ensures) 1 ∙ rw ends
 
 loop-holds : tie.Need-loop-holds Inv-loop μ-loop
@@ -48,7 +48,7 @@ series-requires c κs = search needs
 amplitude-requires-2 : tie.Need-amplitude-requires-2 Inv-loop μ-loop
 amplitude-requires-2 c κs =
     let start = c .before .before .before .before in
-    sized _ (c .series .ensures) (series-small (start .pre .measurable .window) _ (system (start .args .y)))
+    sized _ (c .series .ensures) (series-small (start .pre .place .window) _ (system (start .args .y)))
 
 add-r : tie.Need-add-r Inv-loop μ-loop
 add-r c = search needs
@@ -70,8 +70,8 @@ unfolding twiceRestraint
 returns-2 c =
     let at = c .before in
     let start = at .before .before in
-    let all : at .loop .z ≡ start .args .v .ends = omega arith in
-    let ends : eqb (start .args .v .ends) 2 ≡ false = ne-eqb _ _ (at .before .if1 .left) in
+    let all : at .loop .z ≡ start .args .ends = omega arith in
+    let ends : eqb (start .args .ends) 2 ≡ false = ne-eqb _ _ (at .before .if1 .left) in
     at .loop .inv .1 .0 ∙ rw (ends, all)
 
 pub twice-restraint-spec : {M : Type 1} → statement M
