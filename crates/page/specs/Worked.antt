@@ -11,7 +11,7 @@ use Rattle.measuring.specs.declared.Readings.{Readings}
 use Rattle.state.specs.declared.Element.{Element}
 use Rattle.state.specs.declared.Trip.{Trip}
 use Rattle.page.specs.declared.Events.{Events}
-use Rattle.page.specs.Events.{new, raised, lowered, masked, written, interrupt}
+use Rattle.page.specs.Events.{new, newFlags, refusedSet, raised, lowered, masked, written, interrupt}
 use Rattle.page.specs.Page.{page}
 
 pub page-long : (t : Trip) (m : Readings) (e : Events) → length (page t m e) ≡ 64
@@ -92,3 +92,17 @@ pub new-met :
     ∷ []
     ≡ false ∷ true ∷ false ∷ true ∷ []
 new-met = refl
+
+-- the flags of a new start, a new trip, both, a start and a trip that go on, and a refused set
+pub flags-met :
+    let none = three false false false in
+    let one = three false true false in
+    maskOf (newFlags none one none none)
+    ∷ maskOf (newFlags one one none one)
+    ∷ maskOf (newFlags none one none one)
+    ∷ maskOf (newFlags one one one one)
+    ∷ maskOf refusedSet
+    ∷ []
+    ≡ 1 ∷ 2 ∷ 3 ∷ 0 ∷ 4 ∷ []
+unfolding maskOf
+flags-met = refl
