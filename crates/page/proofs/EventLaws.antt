@@ -77,6 +77,14 @@ pub raised-flags : (b : Bits) (e : Events) → bitsOf (raised b e .flags) ≡ ei
 unfolding raised
 raised-flags b e = bits-mask (either (bitsOf (e .flags)) b)
 
+-- no bit less
+pub without-none : (b : Bits) → b ≡ without b no-bit
+without-none b = λ i. record { b0 = same (b .b0) i; b1 = same (b .b1) i; b2 = same (b .b2) i }
+  where
+    same : (x : Bool) → x ≡ (x && true)
+    same true = refl
+    same false = refl
+
 -- flags of which some are cleared, and none is raised
 pub record Lower (e n : Events) : Type 0 where
   pub by : Bits
@@ -86,14 +94,7 @@ pub written-lower : (offset byte : ℕ) (e : Events) → Lower e (written offset
 unfolding lowered masked
 written-lower offset byte e = by (eqb offset 3) (eqb offset 4)
   where
-    same : (x : Bool) → x ≡ (x && true)
-    same true = refl
-    same false = refl
-
-    none : (b : Bits) → b ≡ without b no-bit
-    none b = λ i. record { b0 = same (b .b0) i; b1 = same (b .b1) i; b2 = same (b .b2) i }
-
     by : (a b : Bool) → Lower e (cond a (lowered byte e) (cond b (masked byte e) e))
     by true b = record { by = bitsOf byte; is = bits-mask (without (bitsOf (e .flags)) (bitsOf byte)) }
-    by false true = record { by = no-bit; is = none (bitsOf (e .flags)) }
-    by false false = record { by = no-bit; is = none (bitsOf (e .flags)) }
+    by false true = record { by = no-bit; is = without-none (bitsOf (e .flags)) }
+    by false false = record { by = no-bit; is = without-none (bitsOf (e .flags)) }

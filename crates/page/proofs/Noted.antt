@@ -1,6 +1,6 @@
 -- What is new after a set: all that starts, where nothing started before; and sets that raise no flag.
 use mathlib.Core.Path.{_≡_, refl, sym, ap, _∙_}
-use mathlib.Core.Bool.{Bool, true, false, not, _&&_, _||_, true≢false}
+use mathlib.Core.Bool.{Bool, true, false, not, _||_, true≢false}
 use lib.Dec.{T}
 use Rattle.lists.specs.Tests.{hold}
 use Rattle.bits.specs.declared.Bits.{Bits}
@@ -12,18 +12,11 @@ use Rattle.page.specs.declared.Events.{Events}
 use Rattle.page.specs.Events.{within, new, newFlags, raised}
 use Rattle.page.specs.Page.{startsOf}
 use Rattle.page.specs.PageInput.{nothingNew}
-use Rattle.page.proofs.EventLaws.{no-bit, none-set, raised-none}
+use Rattle.page.proofs.EventLaws.{no-bit, none-set, without-none, raised-none}
 
 -- where nothing started before, whatever starts is new
 pub all-new : (now : Bits) → some now ≡ new no-bit now
-all-new now = by (now .b0) (now .b1) (now .b2)
-  where
-    same : (x : Bool) → x ≡ (x && true)
-    same true = refl
-    same false = refl
-
-    by : (x y z : Bool) → (x || (y || z)) ≡ ((x && true) || ((y && true) || (z && true)))
-    by x y z = λ i. same x i || (same y i || same z i)
+all-new now = ap (λ (b : Bits). some b) (without-none now)
 
 -- ---- a set that raises nothing
 

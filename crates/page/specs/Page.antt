@@ -40,13 +40,14 @@ page t m e =
     -- Others read zero.
     ++ replicate 32 0)
 
--- masks and currents of the last accepted set: zero unless the window is full
+-- nothing measured: all zero
 abbrev zero : Reading
 zero = record { d = 0; r = 0; h2 = 0; h5 = 0; start = false; blocked = false }
 
 abbrev pub nothing : Readings
 nothing = record { a = zero; b = zero; c = zero }
 
+-- masks and currents of the last accepted set, zero unless the window is full
 abbrev pub shown : Setting → Window → Readings
 shown v w = cond (full w) (readingsOf v (w .values)) nothing
 

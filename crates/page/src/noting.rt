@@ -54,7 +54,7 @@ fn new_since(v: Setting, w: Window, m: Readings) -> bool
     one_starts_anew(v, &values, m)
 }
 
-// Whether the flag of a new start is to be raised; it is not looked at where it is.
+// Whether the flag of a new start is to be raised. Where it is raised already nothing is looked at.
 fn new_start(v: Setting, w: Window, e: Events, m: Readings) -> bool
     requires { ⌜ Held v w ⌝ }
     ensures { λ b. let flag = bitsOf (e .flags) .b0 in ⌜ (flag || b) ≡ (flag || new (startsOf (shown v w)) (startsOf m)) ⌝ }
