@@ -2,7 +2,7 @@
 
 ghost use Prim.Native.Nat.{_+_, _≤_};
 ghost use lib.ListN.{length};
-ghost use Rattle.refusal.specs.Refusals.{numberOf};
+ghost use Rattle.refusal.specs.Refusals.{toldOf};
 ghost use Rattle.line.specs.Line.{currents, refused, PutsFew, columnsOf, lineOf};
 use refusal::Refusal;
 use relay::Answer;
@@ -48,7 +48,7 @@ pub fn put_line(buffer: &mut [u8], at: usize, number: u64, answer: Answer, trip:
 // `refused` and the number of a refusal.
 pub fn put_refused(buffer: &mut [u8], at: usize, r: Refusal) -> usize
     requires { ⌜ at + 12 ≤ length (now buffer) ⌝ }
-    ensures { λ end. ⌜ PutsFew 12 (refused (numberOf r)) (now (buffer .entry)) at (now (buffer .exit)) end ⌝ }
+    ensures { λ end. ⌜ PutsFew 12 (refused (toldOf r)) (now (buffer .entry)) at (now (buffer .exit)) end ⌝ }
 {
     let a = text::put(buffer, at, b"refused");
     let b = text::put_field(buffer, a, refusal::number(r) as u64);

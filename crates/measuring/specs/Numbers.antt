@@ -34,7 +34,7 @@ factorOf v i s = factor (twoEnds s (rated v i) (rated v i)) 0
 
 -- the number of the refusal of a setting with V 780 and S 1,351, by I of each end; 0 where it is accepted
 abbrev refusalOf : (current0 current1 : ℕ) → ℤ
-refusalOf i j = byOutcome (firstRefusal (startRows (twoEnds 1351 (rated 780 i) (rated 780 j)))) (λ n. pos n) (λ done. pos 0)
+refusalOf i j = byOutcome (firstRefusal (startRows (twoEnds 1351 (rated 780 i) (rated 780 j)))) (λ told. pos (told .number)) (λ done. pos 0)
 
 settings : List Worked
 settings =

@@ -27,32 +27,39 @@ numberOf Count = 14
 numberOf Offset = 15
 numberOf Fixed = 16
 
+-- What a refusal tells, the table's first column.
+pub record Told : Type 0 where
+  pub number : ℕ
+
+abbrev pub toldOf : Refusal → Told
+toldOf r = record { number = numberOf r }
+
 -- ---- what a call gives
 
--- What a call gives, in the table's terms: its values, or the number of a refusal.
+-- What a call gives, in the table's terms: its values, or what a refusal tells.
 pub data Outcome (A : Type 0) : Type 0 where
   gives : A → Outcome A
-  declines : ℕ → Outcome A
+  declines : Told → Outcome A
 
--- What follows from an outcome: from the number of its refusal, or from its values. So a call leaves one thing at a refusal, which may depend on
+-- What follows from an outcome: from what its refusal tells, or from its values. So a call leaves one thing at a refusal, which may depend on
 -- which one it is, and another where it accepts.
-abbrev pub byOutcome : {A B : Type 0} → Outcome A → (refused : ℕ → B) (given : A → B) → B
+abbrev pub byOutcome : {A B : Type 0} → Outcome A → (refused : Told → B) (given : A → B) → B
 byOutcome (gives a) refused given = given a
-byOutcome (declines n) refused given = refused n
+byOutcome (declines told) refused given = refused told
 
--- A row of the table: the number returned, and when.
+-- A row of the table: what is returned, and when.
 infix 4 _when_
 pub record Row : Type 0 where
-  pub number : ℕ
+  pub told : Told
   pub applies : Bool
 
 abbrev pub _when_ : ℕ → Bool → Row
-n when b = record { number = n; applies = b }
+n when b = record { told = record { number = n }; applies = b }
 
 -- the first row that applies; the values where none does
 abbrev pub firstOf : {A : Type 0} → List Row → A → Outcome A
 firstOf [] a = gives a
-firstOf (r ∷ rs) a = cond (r .applies) (declines (r .number)) (firstOf rs a)
+firstOf (r ∷ rs) a = cond (r .applies) (declines (r .told)) (firstOf rs a)
 
 -- no row applies
 abbrev pub noneApplies : List Row → Bool
@@ -69,7 +76,7 @@ firstRefusal rs = firstOf rs (tt {0})
 -- its answer in the table's terms
 abbrev pub outcomeOf : Verdict → Outcome (Unit {0})
 outcomeOf Accepted = done
-outcomeOf (Refused r) = declines (numberOf r)
+outcomeOf (Refused r) = declines (toldOf r)
 
 -- ---- the offset that an answer names: one with refusal 5, none with any other
 

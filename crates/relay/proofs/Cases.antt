@@ -12,7 +12,7 @@ use lib.ListN.{getD}
 use Rattle.lists.specs.Tests.{Each}
 use Rattle.lists.proofs.TestLaws.{split, is-true}
 use Rattle.refusal.specs.declared.Verdict.{Verdict}
-use Rattle.refusal.specs.Refusals.{Outcome, gives, declines, byOutcome, _when_, firstOf, firstRefusal, done, outcomeOf}
+use Rattle.refusal.specs.Refusals.{Told, Outcome, gives, declines, byOutcome, _when_, firstOf, firstRefusal, done, outcomeOf}
 use Rattle.refusal.proofs.Stops.{Passed, Stops, Stopped, stops-declines, passed-gives, none-gives, stopped}
 use Rattle.setting.specs.declared.Setting.{Setting}
 use Rattle.state.specs.declared.Window.{Window}
@@ -21,7 +21,7 @@ use Rattle.relay.specs.declared.Sampled.{Sampled}
 use Rattle.relay.specs.declared.Returned.{Returned}
 use Rattle.page.specs.Events.{written as writtenEvents}
 use Rattle.relay.specs.Record.{fresh, admissible, withEvents}
-use Rattle.relay.specs.Calls.{setRows, accepted, sampleRows, windowAfter, replyNow, relayNow, refusedRelay, leftAt, sampleReply, Gives, Samples}
+use Rattle.relay.specs.Calls.{setRows, accepted, sampleRows, windowAfter, replyNow, relayNow, refusedRelay, ofSet, leftAt, sampleReply, Gives, Samples}
 use Rattle.relay.specs.Page.{pageOf, beyond, fixed, readRows, readReply, writeRows, resets, written, writeReply, writeRelay}
 use Rattle.relay.specs.Calls.{resetRows, cleared, resetReply, resetRelay, startReply, Starts}
 
@@ -39,7 +39,7 @@ start-accepted {v} s e =
 -- ---- any record
 
 module _ (r : Relay) (xs : List ℤ) {s : Sampled} where
-  pub declined : {n : ℕ} → Stops (sampleRows r xs) n → Gives (declines n) (leftAt r n) s → Samples r xs s
+  pub declined : {n : Told} → Stops (sampleRows r xs) n → Gives (declines n) (leftAt r n) s → Samples r xs s
   declined {n} p g =
       let o : sampleReply r xs ≡ declines n = stops-declines p _ in
       record { reply = rw o (g .reply); relay = rw o (g .relay) }
@@ -53,16 +53,16 @@ module _ (r : Relay) (xs : List ℤ) {s : Sampled} where
 
 -- a refusal of 10, 11 or 14
 pub record Other {A : Type 0} (o : Outcome A) : Type 0 where
-  pub number : ℕ
-  pub is : o ≡ declines number
-  pub among : T (eqb number 10 || (eqb number 11 || eqb number 14))
+  pub told : Told
+  pub is : o ≡ declines told
+  pub among : T (ofSet told)
 
-pub not-12 : {A : Type 0} {o : Outcome A} (d : Other o) → d .number ≢ 12
+pub not-12 : {A : Type 0} {o : Outcome A} (d : Other o) → d .told .number ≢ 12
 not-12 d e = rw e at (d .among)
 
 -- what it leaves
-pub other-leaves : {A : Type 0} {o : Outcome A} (d : Other o) (r : Relay) → leftAt r (d .number) ≡ refusedRelay r
-other-leaves d r = let among : (eqb (d .number) 10 || (eqb (d .number) 11 || eqb (d .number) 14)) ≡ true = is-true (d .among) in rw among
+pub other-leaves : {A : Type 0} {o : Outcome A} (d : Other o) (r : Relay) → leftAt r (d .told) ≡ refusedRelay r
+other-leaves d r = let among : ofSet (d .told) ≡ true = is-true (d .among) in rw among
 
 module _ (v : Setting) (r : Relay) (xs : List ℤ) (adm : admissible r ≡ true) (same : r .setting ≡ v) where
   -- 12 is passed
@@ -77,7 +77,7 @@ module _ (v : Setting) (r : Relay) (xs : List ℤ) (adm : admissible r ≡ true)
   unfolding setRows
   sample-declines e =
       let d : Stopped (setRows v xs) = stopped (setRows v xs) e in
-      record { number = d .number; is = sample-reply ∙ stops-declines (d .stops) _; among = d .among (λ n. eqb n 10 || (eqb n 11 || eqb n 14)) tt }
+      record { told = d .told; is = sample-reply ∙ stops-declines (d .stops) _; among = d .among ofSet tt }
 
 -- a write that resets is one to byte 7
 pub resets-at : (o x : ℕ) → resets o x ≡ true → o ≡ 7

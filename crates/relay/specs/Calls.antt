@@ -8,7 +8,7 @@ use lib.IntN.{ℤ, pos, natAbs}
 use lib.ListN.{length, drop}
 use Rattle.lists.specs.Tests.{each, Each}
 use Rattle.integer.specs.Within.{eqZ}
-use Rattle.refusal.specs.Refusals.{numberOf, Outcome, gives, declines, byOutcome, Row, _when_, firstOf, noneApplies, firstRefusal}
+use Rattle.refusal.specs.Refusals.{Told, toldOf, Outcome, gives, declines, byOutcome, Row, _when_, firstOf, noneApplies, firstRefusal}
 use Rattle.refusal.specs.Refusals as R
 use Rattle.setting.specs.declared.Setting.{Setting}
 use Rattle.setting.specs.Values.{startRows, fields}
@@ -107,9 +107,13 @@ relayNow r w = record { setting = r .setting; window = w; trip = tripNow r w; ev
 unfoldable pub refusedRelay : Relay → Relay
 refusedRelay r = withEvents r (raised refusedSet (r .events))
 
--- what is left at a refusal: 10, 11 and 14 are those of a refused set; with 12 the record stays as it was
-abbrev pub leftAt : Relay → ℕ → Relay
-leftAt r number = cond (eqb number 10 || (eqb number 11 || eqb number 14)) (refusedRelay r) r
+-- 10, 11 and 14 are the refusals of a set
+abbrev pub ofSet : Told → Bool
+ofSet told = eqb (told .number) 10 || (eqb (told .number) 11 || eqb (told .number) 14)
+
+-- what is left at a refusal: with 12 the record stays as it was
+abbrev pub leftAt : Relay → Told → Relay
+leftAt r told = cond (ofSet told) (refusedRelay r) r
 
 -- ---- the sample call's answer, and the record that it leaves
 
@@ -123,7 +127,7 @@ sampleRelay r xs = byOutcome (sampleReply r xs) (leftAt r) (λ reply. relayNow r
 abbrev pub outcomeOf : Answer → Outcome Reply
 outcomeOf (Filling n) = gives (filling n)
 outcomeOf (Measured a b c) = gives (measured a b c)
-outcomeOf (Refused r) = declines (numberOf r)
+outcomeOf (Refused r) = declines (toldOf r)
 
 -- an answer and a record
 pub record Gives (o : Outcome Reply) (after : Relay) (s : Sampled) : Type 0 where

@@ -5,7 +5,7 @@ use mathlib.Core.List.{List, [], _∷_}
 use Prim.Native.Nat.{ℕ}
 use lib.Dec.{leb, eqb}
 use lib.ListN.{getD}
-use Rattle.refusal.specs.Refusals.{numberOf, Outcome, gives, declines, byOutcome, Row, _when_, firstOf, firstRefusal}
+use Rattle.refusal.specs.Refusals.{toldOf, Outcome, gives, declines, byOutcome, Row, _when_, firstOf, firstRefusal}
 use Rattle.refusal.specs.Refusals as R
 use Rattle.page.specs.Events.{written as writtenEvents}
 use Rattle.page.specs.Page.{page, shown}
@@ -47,7 +47,7 @@ readRelay r offset = r
 
 abbrev pub outcomeOf : PageByte → Outcome ℕ
 outcomeOf (Byte n) = gives n
-outcomeOf (Refused r) = declines (numberOf r)
+outcomeOf (Refused r) = declines (toldOf r)
 
 pub record Reads (r : Relay) (offset : ℕ) (s : PageRead) : Type 0 where
   pub reply : outcomeOf (s .answer) ≡ readReply r offset

@@ -3,7 +3,7 @@
 ghost use mathlib.Core.Path.{_≡_};
 ghost use mathlib.Core.Bool.{cond};
 ghost use Rattle.refusal.specs.declared.Verdict.the-variants.{Refused};
-ghost use Rattle.refusal.specs.Refusals.{gives, declines, numberOf};
+ghost use Rattle.refusal.specs.Refusals.{gives, declines, toldOf};
 ghost use Rattle.characteristic.specs.Characteristic.{counts as countsOf};
 ghost use Rattle.state.specs.State.{elementAfter};
 ghost use Rattle.relay.specs.Calls.{replyNow, relayNow, refusedRelay, cleared as clearedOf, Gives, Samples, Resets, Starts};
@@ -104,7 +104,7 @@ fn measured(r: Relay, w: Window) -> Sampled
 
 // A refusal of a sample call, with the record as before but for the flag of a refused set, where it is one.
 fn refused(r: Relay, why: Refusal, set: bool) -> Sampled
-    ensures { λ s. ⌜ Gives (declines (numberOf why)) (cond set (refusedRelay r) r) s ⌝ }
+    ensures { λ s. ⌜ Gives (declines (toldOf why)) (cond set (refusedRelay r) r) s ⌝ }
 {
     if !set {
         return Sampled {

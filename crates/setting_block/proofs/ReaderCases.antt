@@ -6,7 +6,7 @@ use lib.ListN.{take}
 use Rattle.lists.specs.Tests.{Each, none}
 use Rattle.refusal.specs.declared.Refusal.{Refusal}
 use Rattle.refusal.specs.declared.Verdict.{Verdict}
-use Rattle.refusal.specs.Refusals.{numberOf, Outcome, gives, declines, byOutcome, offsetsOf}
+use Rattle.refusal.specs.Refusals.{toldOf, Outcome, gives, declines, byOutcome, offsetsOf}
 use Rattle.refusal.specs.Refusals as R
 use Rattle.refusal.proofs.Stops.{Passed, Stops, stops-declines, past-first, firstOf-values}
 use Rattle.setting.specs.declared.Setting.{Setting}
@@ -31,7 +31,7 @@ answer-offsets v (Verdict.Refused q) = refl
 
 module _ (s : List ℕ) where
   -- a refusal that names no offset
-  pub refused : (q : Refusal) → offsetsOf q ≡ [] → Stops (readRows s) (numberOf q) → Reads s (ReadSetting.Refused q)
+  pub refused : (q : Refusal) → offsetsOf q ≡ [] → Stops (readRows s) (toldOf q) → Reads s (ReadSetting.Refused q)
   refused q o p = record { outcome = sym (stops-declines p (settingAt s)); offset = rw o none }
 
   -- what the verdict on the values and the zero bytes says

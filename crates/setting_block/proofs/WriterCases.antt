@@ -11,7 +11,7 @@ use Rattle.lists.specs.Tests.{none}
 use Rattle.refusal.specs.declared.Refusal.{Refusal}
 use Rattle.refusal.specs.declared.Verdict.{Verdict}
 use Rattle.refusal.specs.declared.Verdict.the-variants.{Accepted, Refused}
-use Rattle.refusal.specs.Refusals.{numberOf, Row, declines, done, byOutcome, _when_, firstRefusal, outcomeOf, offsetsOf}
+use Rattle.refusal.specs.Refusals.{toldOf, Row, declines, done, byOutcome, _when_, firstRefusal, outcomeOf, offsetsOf}
 use Rattle.block.specs.Block.{sealed, bufferWith}
 use Rattle.setting.specs.declared.Setting.{Setting}
 use Rattle.setting.specs.Values.{storeRows}
@@ -53,9 +53,9 @@ module _ (v : Setting) (buffer : List ℕ) where
 
   module _ (j : Judges v Accepted) where
     -- a refusal that names no offset
-    pub no-room : length buffer < 512 → {q : Refusal} → numberOf q ≡ 13 → offsetsOf q ≡ [] → Writes v buffer (Refused q) buffer
+    pub no-room : length buffer < 512 → {q : Refusal} → toldOf q ≡ record { number = 13 } → offsetsOf q ≡ [] → Writes v buffer (Refused q) buffer
     no-room h {q} e n =
-        let o : writeOf v buffer ≡ declines (numberOf q) = rows-by j ∙ rw (lt-ltb (length buffer) 512 h, e) in
+        let o : writeOf v buffer ≡ declines (toldOf q) = rows-by j ∙ rw (lt-ltb (length buffer) 512 h, e) in
         record { outcome = sym o; bytes = rw o; offset = rw n none }
 
     pub written : 512 ≤ length buffer → Writes v buffer Accepted (bufferWith buffer (blockOf v))

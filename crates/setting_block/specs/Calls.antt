@@ -7,7 +7,7 @@ use lib.Dec.{eqb, ltb}
 use lib.ListN.{length}
 use Rattle.lists.specs.Tests.{Each}
 use Rattle.refusal.specs.declared.Verdict.{Verdict}
-use Rattle.refusal.specs.Refusals.{numberOf, Outcome, gives, declines, byOutcome, Row, _when_, firstOf, firstRefusal, offsetsOf}
+use Rattle.refusal.specs.Refusals.{toldOf, Outcome, gives, declines, byOutcome, Row, _when_, firstOf, firstRefusal, offsetsOf}
 use Rattle.refusal.specs.Refusals as R
 use Rattle.block.specs.Block.{checked, bufferWith}
 use Rattle.setting.specs.declared.Field.{Field}
@@ -38,7 +38,7 @@ readOf s = firstOf (readRows s) (settingAt s)
 -- the reader's answer in the table's terms, and the offset that it names
 abbrev pub outcomeOf : ReadSetting → Outcome Setting
 outcomeOf (Accepted v) = gives v
-outcomeOf (Refused r) = declines (numberOf r)
+outcomeOf (Refused r) = declines (toldOf r)
 
 abbrev pub offsets : ReadSetting → List ℕ
 offsets (Accepted v) = []

@@ -10,7 +10,7 @@ use Rattle.refusal.specs.Refusals.{Outcome, gives, declines, byOutcome}
 use Rattle.page.specs.declared.Events.{Events}
 use Rattle.relay.specs.declared.Relay.{Relay}
 use Rattle.relay.specs.Record.{admissible, withEvents}
-use Rattle.relay.specs.Calls.{Reply, windowAfter, replyNow, relayNow, refusedRelay, leftAt, sampleReply, sampleRelay}
+use Rattle.relay.specs.Calls.{Reply, windowAfter, replyNow, relayNow, refusedRelay, ofSet, leftAt, sampleReply, sampleRelay}
 use Rattle.relay.specs.Calls.{resetRows, cleared, resetReply, resetRelay}
 use Rattle.relay.specs.Page.{writeRows, resets, writeReply, writeRelay}
 use Rattle.relay.specs.Lists.{Call, sample, reset, read, write, after, run}
@@ -38,7 +38,7 @@ module _ (r : Relay) (e : Events) (p : admissible r ≡ true) (q : admissible (w
 
       by : (o : Outcome Reply) → Alike (byOutcome o (leftAt r) (λ a. relayNow r (windowAfter r xs))) (byOutcome o (leftAt s) (λ a. relayNow s (windowAfter r xs)))
       by (gives a) = record { setting = refl; window = refl; trip = refl }
-      by (declines n) = refused (eqb n 10 || (eqb n 11 || eqb n 14))
+      by (declines told) = refused (ofSet told)
 
   reset-same : resetReply r ≡ resetReply (withEvents r e)
   unfolding resetRows

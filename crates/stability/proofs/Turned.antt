@@ -15,7 +15,7 @@ use Rattle.integer.proofs.Laws.{natAbs-neg, eqZ→≡}
 use Rattle.lists.specs.Tests.{each}
 use Rattle.lists.proofs.TestLaws.{is-false}
 use Rattle.lists.proofs.Maps.{map-take, map-drop}
-use Rattle.refusal.specs.Refusals.{Outcome, gives, declines, byOutcome, noneApplies}
+use Rattle.refusal.specs.Refusals.{Told, Outcome, gives, declines, byOutcome, noneApplies}
 use Rattle.setting.specs.declared.Setting.{Setting}
 use Rattle.matching.specs.Sets.{System, sysA, sysB, sysC, numbers}
 use Rattle.matching.proofs.Negated.{numbers-negated}
@@ -31,7 +31,7 @@ use Rattle.relay.specs.declared.Relay.{Relay}
 use Rattle.page.specs.Events.{written as writtenEvents}
 use Rattle.page.specs.Page.{shown}
 use Rattle.relay.specs.Record.{fresh, admissible, withEvents}
-use Rattle.relay.specs.Calls.{setRows, sampleRows, windowAfter, counting, measureNow, replyNow, eventsNow, relayNow, refusedRelay, leftAt}
+use Rattle.relay.specs.Calls.{setRows, sampleRows, windowAfter, counting, measureNow, replyNow, eventsNow, relayNow, refusedRelay, ofSet, leftAt}
 use Rattle.relay.specs.Calls.{sampleReply, sampleRelay}
 use Rattle.relay.specs.Calls.{resetRows, cleared, resetReply, resetRelay}
 use Rattle.relay.specs.Page.{readRows, readReply, writeRows, resets, written, writeReply, writeRelay}
@@ -114,13 +114,13 @@ module _ (r : Relay) (w : Window) where
 -- ---- one call
 
 -- the record that a call leaves, by its outcome
-left-turned : {A : Type 0} (o : Outcome A) (f : ℕ → Relay) (s : Relay) → byOutcome o (λ n. turnedRelay (f n)) (λ a. turnedRelay s) ≡ turnedRelay (byOutcome o f (λ a. s))
+left-turned : {A : Type 0} (o : Outcome A) (f : Told → Relay) (s : Relay) → byOutcome o (λ n. turnedRelay (f n)) (λ a. turnedRelay s) ≡ turnedRelay (byOutcome o f (λ a. s))
 left-turned (gives a) f s = refl
 left-turned (declines n) f s = refl
 
-refused-turned : (r : Relay) (n : ℕ) → leftAt (turnedRelay r) n ≡ turnedRelay (leftAt r n)
+refused-turned : (r : Relay) (n : Told) → leftAt (turnedRelay r) n ≡ turnedRelay (leftAt r n)
 unfolding refusedRelay
-refused-turned r n = by (eqb n 10 || (eqb n 11 || eqb n 14))
+refused-turned r n = by (ofSet n)
   where
     by : (b : Bool) → cond b (refusedRelay (turnedRelay r)) (turnedRelay r) ≡ turnedRelay (cond b (refusedRelay r) r)
     by true = refl
@@ -138,7 +138,7 @@ module _ (r : Relay) (adm : admissible r ≡ true) (xs : List ℤ) where
   sample-turned =
       let w = windowAfter r xs in
       rw (sample-same, window-turned, now-turned r w)
-      (ap (λ (f : ℕ → Relay). byOutcome (sampleReply r xs) f (λ a. turnedRelay (relayNow r w))) (λ i n. refused-turned r n i)
+      (ap (λ (f : Told → Relay). byOutcome (sampleReply r xs) f (λ a. turnedRelay (relayNow r w))) (λ i n. refused-turned r n i)
       ∙ left-turned (sampleReply r xs) (leftAt r) (relayNow r w))
 
 module _ (r : Relay) where

@@ -41,7 +41,7 @@ CalmReply v (measured a b c) = Calm v a × Calm v b × Calm v c
 -- refusal 12 does not arise, and what is given has P
 abbrev pub Without12 : {A : Type 0} → (P : A → Type 0) → Outcome A → Type 0
 Without12 P (gives a) = P a
-Without12 P (declines n) = n ≢ 12
+Without12 P (declines told) = told .number ≢ 12
 
 -- refusal 12 does not arise, and a Measured answer is calm
 abbrev pub CalmCall : Setting → Relay → Call → Type 0
