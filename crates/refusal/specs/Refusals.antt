@@ -1,6 +1,7 @@
 -- The refusals (document 01, "What the relay declines"; 15 and 16 by document 02, card 2).
 use mathlib.Core.Bool.{Bool, not, cond}
 use mathlib.Core.List.{List, [], _∷_}
+use mathlib.Core.Option.{Option, none, some}
 use Prim.Native.Nat.{ℕ}
 use Rattle.lists.specs.Tests.{each}
 use Rattle.refusal.specs.declared.Refusal.{Refusal}
@@ -8,31 +9,35 @@ use Rattle.refusal.specs.declared.Refusal.the-variants.{Length, Check, M
 use Rattle.refusal.specs.declared.Verdict.{Verdict}
 use Rattle.refusal.specs.declared.Verdict.the-variants.{Accepted, Refused}
 
--- the number of each refusal in the table's first column; that of a field carries its offset beside it
-abbrev pub numberOf : Refusal → ℕ
-numberOf Length = 1
-numberOf Check = 2
-numberOf Mark = 3
-numberOf Ends = 4
-numberOf (Field offset) = 5
-numberOf FactorHigh = 6
-numberOf FactorsLow = 7
-numberOf Sets = 8
-numberOf Spare = 9
-numberOf Reach = 10
-numberOf Unused = 11
-numberOf Record = 12
-numberOf Room = 13
-numberOf Count = 14
-numberOf Offset = 15
-numberOf Fixed = 16
-
--- What a refusal tells, the table's first column.
+-- What a refusal tells, the table's first column: its number, and with 5 an offset.
 pub record Told : Type 0 where
   pub number : ℕ
+  pub offset : Option ℕ
+
+abbrev pub alone : ℕ → Told
+alone n = record { number = n; offset = none }
 
 abbrev pub toldOf : Refusal → Told
-toldOf r = record { number = numberOf r }
+toldOf Length = alone 1
+toldOf Check = alone 2
+toldOf Mark = alone 3
+toldOf Ends = alone 4
+toldOf (Field offset) = record { number = 5; offset = some offset }
+toldOf FactorHigh = alone 6
+toldOf FactorsLow = alone 7
+toldOf Sets = alone 8
+toldOf Spare = alone 9
+toldOf Reach = alone 10
+toldOf Unused = alone 11
+toldOf Record = alone 12
+toldOf Room = alone 13
+toldOf Count = alone 14
+toldOf Offset = alone 15
+toldOf Fixed = alone 16
+
+-- the number, without the offset
+abbrev pub numberOf : Refusal → ℕ
+numberOf r = toldOf r .number
 
 -- ---- what a call gives
 
@@ -48,13 +53,16 @@ byOutcome (gives a) refused given = given a
 byOutcome (declines told) refused given = refused told
 
 -- A row of the table: what is returned, and when.
-infix 4 _when_
+infix 4 _when_ _at_when_
 pub record Row : Type 0 where
   pub told : Told
   pub applies : Bool
 
 abbrev pub _when_ : ℕ → Bool → Row
-n when b = record { told = record { number = n }; applies = b }
+n when b = record { told = alone n; applies = b }
+
+abbrev pub _at_when_ : ℕ → Option ℕ → Bool → Row
+n at offset when b = record { told = record { number = n; offset = offset }; applies = b }
 
 -- the first row that applies; the values where none does
 abbrev pub firstOf : {A : Type 0} → List Row → A → Outcome A
@@ -77,27 +85,3 @@ firstRefusal rs = firstOf rs (tt {0})
 abbrev pub outcomeOf : Verdict → Outcome (Unit {0})
 outcomeOf Accepted = done
 outcomeOf (Refused r) = declines (toldOf r)
-
--- ---- the offset that an answer names: one with refusal 5, none with any other
-
-abbrev pub offsetsOf : Refusal → List ℕ
-offsetsOf Length = []
-offsetsOf Check = []
-offsetsOf Mark = []
-offsetsOf Ends = []
-offsetsOf (Field offset) = offset ∷ []
-offsetsOf FactorHigh = []
-offsetsOf FactorsLow = []
-offsetsOf Sets = []
-offsetsOf Spare = []
-offsetsOf Reach = []
-offsetsOf Unused = []
-offsetsOf Record = []
-offsetsOf Room = []
-offsetsOf Count = []
-offsetsOf Offset = []
-offsetsOf Fixed = []
-
-abbrev pub offsets : Verdict → List ℕ
-offsets Accepted = []
-offsets (Refused r) = offsetsOf r

@@ -6,13 +6,12 @@ use Prim.Native.Nat.{ℕ, _*_}
 use lib.Dec.{leb, eqb}
 use lib.IntN.{ℤ, pos, natAbs}
 use lib.ListN.{length, drop}
-use Rattle.lists.specs.Tests.{each, Each}
+use Rattle.lists.specs.Tests.{each}
 use Rattle.integer.specs.Within.{eqZ}
 use Rattle.refusal.specs.Refusals.{Told, toldOf, Outcome, gives, declines, byOutcome, Row, _when_, firstOf, noneApplies, firstRefusal}
 use Rattle.refusal.specs.Refusals as R
 use Rattle.setting.specs.declared.Setting.{Setting}
-use Rattle.setting.specs.Values.{startRows, fields}
-use Rattle.setting.specs.Calls.{Wrong}
+use Rattle.setting.specs.Values.{startRows}
 pub use Rattle.setting.specs.Worked.{blank}
 use Rattle.matching.specs.Sets.{System, sysA, sysB, sysC, numbers}
 use Rattle.bits.specs.declared.Bits.{Bits}
@@ -167,5 +166,3 @@ startedOn v = byOutcome (startReply v) (λ refusal. blank) (λ done. v)
 pub record Starts (v : Setting) (s : Returned) : Type 0 where
   pub reply : R.outcomeOf (s .verdict) ≡ startReply v
   pub relay : s .relay ≡ fresh (startedOn v)
-  -- the offset with 5, which the rules leave free
-  pub offset : Each (Wrong (fields v)) (R.offsets (s .verdict))

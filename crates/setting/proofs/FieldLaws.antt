@@ -1,71 +1,109 @@
--- The search for a field outside its rule: a loop that looks at field after field, and what a search tells.
+-- The search for a field outside its rule. A loop looks at field after field, in block order, and stops at the first; of fields whose offsets rise, the
+-- first has the lowest. Of two lists that are searched one beside the other, the lower of the two offsets is the lowest of both.
 use mathlib.Core.Path.{_≡_, refl, sym, ap, _∙_}
-use mathlib.Core.Bool.{Bool, true, false, cond}
-use mathlib.Core.List.{List, [], _∷_, _++_, List·Memᴰ, List·Memᴰ·head, List·Memᴰ·tail, Memᴰ·append-left, Memᴰ·append-right}
-use Prim.Native.Nat.{ℕ, _+_, _≤_, _<_}
-use lib.Dec.{leb}
+use mathlib.Core.Bool.{Bool, true, false, cond, _&&_}
+use mathlib.Core.List.{List, [], _∷_, _++_}
+use mathlib.Core.Option.{Option, none, some}
+use Prim.Native.Nat.{ℕ, _+_, _≤_, _<_, min}
+use native.Mathlib.Omega.{arith}
+use lib.Dec.{T, leb, leb→le}
 use lib.ListN.{length, getD, drop, drop-of-length-le}
 use Rattle.lists.proofs.Places.{drop-next}
-use Rattle.lists.proofs.TestLaws.{each-++}
-use Rattle.setting.specs.declared.Fault.{Fault}
-use Rattle.setting.specs.declared.Fault.the-variants.{Nowhere, At}
+use Rattle.lists.proofs.TestLaws.{split, pair, each-++}
 use Rattle.setting.specs.declared.Field.{Field}
-use Rattle.setting.specs.Values.{right, allRight}
-use Rattle.setting.specs.Search.{firstWrong, sooner}
-use Rattle.setting.specs.Calls.{Wrong}
+use Rattle.setting.specs.Values.{offsetOf, right, allRight, lower, wrongAt, lowest}
 
--- ---- a loop: the search from the place k on gives what the whole search gives
+-- ---- the search in block order
 
+abbrev pub firstWrong : List Field → Option ℕ
+firstWrong [] = none
+firstWrong (f ∷ fs) = cond (right f) (firstWrong fs) (some (offsetOf f))
+
+-- a loop: the search from the place k on gives what the whole search gives
 module _ (fs : List Field) (k : ℕ) (inv : firstWrong (drop k fs) ≡ firstWrong fs) where
   pub search-turn :
       (d : Field) {f : Field} → getD fs k d ≡ f → k < length fs →
-      firstWrong fs ≡ cond (right f) (firstWrong (drop (k + 1) fs)) (At (f .0))
+      firstWrong fs ≡ cond (right f) (firstWrong (drop (k + 1) fs)) (some (f .0))
   search-turn d e h = sym inv ∙ ap firstWrong (drop-next fs k d h) ∙ rw e
 
-  pub search-done : length fs ≤ k → Nowhere ≡ firstWrong fs
+  pub search-done : length fs ≤ k → none ≡ firstWrong fs
   search-done h = rw (drop-of-length-le fs h) at inv
 
--- ---- what a search tells: that each field is right, or the offset of one that is not
+-- ---- of fields whose offsets rise, the first is the lowest
 
-abbrev pub Tells : List Field → Fault → Type 0
-Tells fs Nowhere = allRight fs ≡ true
-Tells fs (At x) = (allRight fs ≡ false) × Wrong fs x
+-- no offset is below the one before it, nor the first below x
+abbrev pub rising : ℕ → List Field → Bool
+rising x [] = true
+rising x (f ∷ fs) = leb x (offsetOf f) && rising (offsetOf f) fs
 
--- a wrong field of a part of the list
-among : {fs gs : List Field} {x : ℕ} → ((f : Field) → List·Memᴰ f fs → List·Memᴰ f gs) → Wrong fs x → Wrong gs x
-among into w = record { field = w .field; of = into (w .field) (w .of); offset = w .offset; wrong = w .wrong }
+pub lower-left : {x y : ℕ} → x ≤ y → some x ≡ lower (some x) (some y)
+lower-left {x} {y} h = let e : x ≡ min x y = omega arith in ap some e
 
-pub tells : (fs : List Field) → Tells fs (firstWrong fs)
+pub lower-right : {x y : ℕ} → y ≤ x → some y ≡ lower (some x) (some y)
+lower-right {x} {y} h = let e : y ≡ min x y = omega arith in ap some e
+
+-- what rises from y on is not below x, where y is not
+above : (x y : ℕ) → x ≤ y → (fs : List Field) → T (rising y fs) → lower (some x) (lowest fs) ≡ some x
+above x y l [] h = refl
+above x y l (f ∷ fs) h =
+    let k = split (leb y (offsetOf f)) (rising (offsetOf f) fs) h in
+    let m : x ≤ offsetOf f = omega (arith, leb→le y (offsetOf f) (k .0)) in
+    by (right f) m (above x (offsetOf f) m fs (k .1)) (above (offsetOf f) (offsetOf f) (omega arith) fs (k .1))
+  where
+    by : (t : Bool) → x ≤ offsetOf f → lower (some x) (lowest fs) ≡ some x → lower (some (offsetOf f)) (lowest fs) ≡ some (offsetOf f) →
+        lower (some x) (lower (cond t none (some (offsetOf f))) (lowest fs)) ≡ some x
+    by true m p q = p
+    by false m p q = rw q (sym (lower-left m))
+
+pub first-lowest : (x : ℕ) (fs : List Field) → T (rising x fs) → firstWrong fs ≡ lowest fs
+first-lowest x [] h = refl
+first-lowest x (f ∷ fs) h =
+    let k = split (leb x (offsetOf f)) (rising (offsetOf f) fs) h in
+    by (right f) (first-lowest (offsetOf f) fs (k .1)) (above (offsetOf f) (offsetOf f) (omega arith) fs (k .1))
+  where
+    by : (t : Bool) → firstWrong fs ≡ lowest fs → lower (some (offsetOf f)) (lowest fs) ≡ some (offsetOf f) →
+        cond t (firstWrong fs) (some (offsetOf f)) ≡ lower (cond t none (some (offsetOf f))) (lowest fs)
+    by true p q = p
+    by false p q = sym q
+
+-- ---- two lists, one beside the other
+
+min-assoc : (x y z : ℕ) → min x (min y z) ≡ min (min x y) z
+min-assoc x y z = omega arith
+
+lower-assoc : (a b c : Option ℕ) → lower a (lower b c) ≡ lower (lower a b) c
+lower-assoc none b c = refl
+lower-assoc (some x) none c = refl
+lower-assoc (some x) (some y) none = refl
+lower-assoc (some x) (some y) (some z) = ap some (min-assoc x y z)
+
+pub lowest-++ : (fs gs : List Field) → lowest (fs ++ gs) ≡ lower (lowest fs) (lowest gs)
+lowest-++ [] gs = refl
+lowest-++ (f ∷ fs) gs = rw (lowest-++ fs gs) (lower-assoc (wrongAt f) (lowest fs) (lowest gs))
+
+pub lower-none : (a b : Option ℕ) → lower a b ≡ none → a ≡ none
+lower-none none b e = refl
+lower-none (some x) none e = e
+lower-none (some x) (some y) e = cc
+
+-- ---- an offset is given where, and only where, some field is not right
+
+abbrev Tells : List Field → Option ℕ → Type 0
+Tells fs none = allRight fs ≡ true
+Tells fs (some x) = allRight fs ≡ false
+
+tells : (fs : List Field) → Tells fs (lowest fs)
 tells [] = refl
-tells (f ∷ fs) = by (right f) refl (firstWrong fs) (tells fs)
+tells (f ∷ fs) = by (right f) refl (lowest fs) (tells fs)
   where
-    by : (t : Bool) → right f ≡ t → (a : Fault) → Tells fs a → Tells (f ∷ fs) (cond t a (At (f .0)))
-    by true e Nowhere h = rw (e, h)
-    by true e (At x) h = (rw (e, h .0), among (λ g m. List·Memᴰ·tail m) (h .1))
-    by false e a h = (rw e, record { field = f; of = List·Memᴰ·head refl; offset = refl; wrong = e })
+    by : (t : Bool) → right f ≡ t → (a : Option ℕ) → Tells fs a → Tells (f ∷ fs) (lower (cond t none (some (offsetOf f))) a)
+    by true e none h = rw (e, h)
+    by true e (some x) h = rw (e, h)
+    by false e none h = rw e
+    by false e (some x) h = rw e
 
--- of two lists that are searched one beside the other: r is the sooner of the two faults
-pub tells-sooner : (fs gs : List Field) {a b r : Fault} → a ≡ firstWrong fs → b ≡ firstWrong gs → r ≡ sooner a b → Tells (fs ++ gs) r
-tells-sooner fs gs {a} {b} p q s = rw s (by a b (rw p (tells fs)) (rw q (tells gs)))
-  where
-    left : {x : ℕ} → Tells fs (At x) → Tells (fs ++ gs) (At x)
-    left h = (rw (each-++ right fs gs, h .0), among (λ f m. Memᴰ·append-left gs m) (h .1))
+pub none-wrong : (fs : List Field) → lowest fs ≡ none → allRight fs ≡ true
+none-wrong fs e = rw e at (tells fs)
 
-    pick : {x y : ℕ} (t : Bool) → Tells fs (At x) → Tells gs (At y) → Tells (fs ++ gs) (cond t (At x) (At y))
-    pick true h k = left h
-    pick false h k = (left h .0, among (λ f m. Memᴰ·append-right fs m) (k .1))
-
-    by : (a b : Fault) → Tells fs a → Tells gs b → Tells (fs ++ gs) (sooner a b)
-    by Nowhere Nowhere h k = rw (each-++ right fs gs, h, k)
-    by Nowhere (At y) h k = (rw (each-++ right fs gs, h, k .0), among (λ f m. Memᴰ·append-right fs m) (k .1))
-    by (At x) Nowhere h k = left h
-    by (At x) (At y) h k = pick (leb x y) h k
-
-pub first-right : (fs : List Field) (a b : Fault) → a ≡ firstWrong fs → sooner a b ≡ Nowhere → allRight fs ≡ true
-first-right fs Nowhere b p e = rw (← p) at (tells fs)
-first-right fs (At x) Nowhere p e = cc
-first-right fs (At x) (At y) p e = by (leb x y) e
-  where
-    by : (t : Bool) → cond t (At x) (At y) ≡ Nowhere → allRight fs ≡ true
-    by true h = cc
-    by false h = cc
+pub some-wrong : (fs : List Field) {x : ℕ} → lowest fs ≡ some x → allRight fs ≡ false
+some-wrong fs e = rw e at (tells fs)

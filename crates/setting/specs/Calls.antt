@@ -1,31 +1,29 @@
 -- The verdict on setting values (document 01, "What the relay declines": the setting writer, and starting a fresh relay from setting values, 4 to 7).
 use mathlib.Core.Path.{_≡_}
-use mathlib.Core.Bool.{false}
-use mathlib.Core.List.{List, List·Memᴰ}
+use mathlib.Core.List.{List, _++_}
+use mathlib.Core.Option.{Option, none, some}
 use Prim.Native.Nat.{ℕ}
-use Rattle.lists.specs.Tests.{Each}
 use Rattle.refusal.specs.declared.Verdict.{Verdict}
-use Rattle.refusal.specs.Refusals.{Row, firstRefusal, outcomeOf, offsets}
+use Rattle.refusal.specs.Refusals.{firstRefusal, outcomeOf}
+use Rattle.setting.specs.declared.Fault.{Fault}
+use Rattle.setting.specs.declared.Fault.the-variants.{Nowhere, At}
 use Rattle.setting.specs.declared.Field.{Field}
 use Rattle.setting.specs.declared.Setting.{Setting}
-use Rattle.setting.specs.Values.{offsetOf, right, fields, storeRows, startRows}
-
--- The offset with refusal 5, which the rules leave free: it is the first byte of some field or zero byte outside its rule.
-pub record Wrong (fs : List Field) (at : ℕ) : Type 0 where
-  pub field : Field
-  pub of : List·Memᴰ field fs
-  pub offset : offsetOf field ≡ at
-  pub wrong : right field ≡ false
-
--- what judging by rows of the table gives, where fs are the fields of refusal 5
-pub record Judged (rows : List Row) (fs : List Field) (r : Verdict) : Type 0 where
-  pub outcome : outcomeOf r ≡ firstRefusal rows
-  pub offset : Each (Wrong fs) (offsets r)
+use Rattle.setting.specs.Values.{fields, lowest, valueRows, storeRows, startRows}
 
 -- whether a block may hold the values v
 abbrev pub Judges : Setting → Verdict → Type 0
-Judges v r = Judged (storeRows v) (fields v) r
+Judges v r = outcomeOf r ≡ firstRefusal (storeRows v)
 
 -- whether a relay can be started on the values v
 abbrev pub JudgesStart : Setting → Verdict → Type 0
-JudgesStart v r = Judged (startRows v) (fields v) r
+JudgesStart v r = outcomeOf r ≡ firstRefusal (startRows v)
+
+-- the offset that a search found, if there is one
+abbrev pub found : Fault → Option ℕ
+found Nowhere = none
+found (At x) = some x
+
+-- the verdict on the values v where further fields were searched beside theirs
+abbrev pub JudgesBeside : Setting → Fault → Verdict → Type 0
+JudgesBeside v beside r = (gs : List Field) → found beside ≡ lowest gs → outcomeOf r ≡ firstRefusal (valueRows (fields v ++ gs) v)

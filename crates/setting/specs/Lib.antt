@@ -1,5 +1,5 @@
 pub mod Values
 pub mod Limits
 pub mod Calls
-pub mod Search
+pub mod Lowest
 pub mod Worked

@@ -1,7 +1,8 @@
--- Setting values and their rules (document 01, "The setting block" and the limits of "Matching").
+-- Setting values and their rules (document 01, "The setting block" and the limits of "Matching"; document 02, card 3).
 use mathlib.Core.Bool.{Bool, true, not, _&&_, cond}
 use mathlib.Core.List.{List, [], _∷_, _++_}
-use Prim.Native.Nat.{ℕ, _+_, _*_}
+use mathlib.Core.Option.{Option, none, some}
+use Prim.Native.Nat.{ℕ, _+_, _*_, min}
 use lib.Dec.{leb, ltb, eqb}
 use lib.ListN.{getD}
 use lib.IntN.{ℤ, pos}
@@ -9,7 +10,7 @@ use lib.Signed.{leZ}
 use Rattle.integer.specs.Nearest.{nearest}
 use Rattle.lists.specs.Lists.{upTo}
 use Rattle.lists.specs.Tests.{each}
-use Rattle.refusal.specs.Refusals.{Row, _when_, noneApplies}
+use Rattle.refusal.specs.Refusals.{Row, _when_, _at_when_, noneApplies}
 use Rattle.setting.specs.declared.End.{End}
 use Rattle.setting.specs.declared.Field.{Field}
 use Rattle.setting.specs.declared.Setting.{Setting}
@@ -75,6 +76,23 @@ fields v = headFields v ++ (endFields v 0 ++ (endFields v 1 ++ (endFields v 2 ++
 abbrev pub allRight : List Field → Bool
 allRight fs = each right fs
 
+-- ---- which field refusal 5 names (document 02, card 3)
+
+-- the lower of two offsets, of those that there are
+abbrev pub lower : Option ℕ → Option ℕ → Option ℕ
+lower none b = b
+lower (some x) none = some x
+lower (some x) (some y) = some (min x y)
+
+-- the offset of a field outside its rule
+abbrev pub wrongAt : Field → Option ℕ
+wrongAt f = cond (right f) none (some (offsetOf f))
+
+-- the lowest offset of a field outside its rule, in whatever order the fields are listed
+abbrev pub lowest : List Field → Option ℕ
+lowest [] = none
+lowest (f ∷ fs) = lower (wrongAt f) (lowest fs)
+
 -- ---- the factors, and their limits
 
 -- The exact factor of an end is k = 1351·V·I / (780·1000·S): its two terms.
@@ -110,7 +128,7 @@ factorsLow v = ltb (count (leZ (pos 32768)) (factors v)) 2
 unfoldable pub valueRows : List Field → Setting → List Row
 valueRows fs v =
     (4 when not (between 2 4 (v .ends)))
-    ∷ (5 when not (allRight fs))
+    ∷ (5 at lowest fs when not (allRight fs))
     ∷ (6 when factorHigh v)
     ∷ (7 when factorsLow v)
     ∷ []

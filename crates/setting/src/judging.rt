@@ -2,8 +2,7 @@
 
 ghost use mathlib.Core.Path.{_≡_};
 ghost use Rattle.setting.specs.Values.{startable};
-ghost use Rattle.setting.specs.Calls.{Judges, JudgesStart};
-ghost use Rattle.setting.specs.Search.{JudgesBeside};
+ghost use Rattle.setting.specs.Calls.{Judges, JudgesStart, JudgesBeside};
 use crate::Fault;
 use crate::Setting;
 use crate::factors;

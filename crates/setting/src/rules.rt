@@ -1,9 +1,10 @@
-// The rules of the fields: the first field outside its rule, in block order.
+// The rules of the fields: the lowest offset of a field outside its rule.
 
 ghost use mathlib.Core.Path.{_≡_};
 ghost use Prim.Native.Nat.{_<_};
-ghost use Rattle.setting.specs.Values.{endOf, right as rightOf, fields as fieldsOf};
-ghost use Rattle.setting.specs.Search.{firstWrong, sooner as soonerOf};
+ghost use Rattle.setting.specs.Values.{endOf, right as rightOf, fields as fieldsOf, lower, lowest};
+ghost use Rattle.setting.specs.Calls.{found};
+ghost use Rattle.setting.specs.Lowest.{LowestGiven};
 use crate::End;
 use crate::Fault;
 use crate::Field;
@@ -11,7 +12,7 @@ use crate::Setting;
 
 // The fault with the lower offset.
 pub fn sooner(a: Fault, b: Fault) -> Fault
-    ensures { λ r. ⌜ r ≡ soonerOf a b ⌝ }
+    ensures { λ r. ⌜ found r ≡ lower (found a) (found b) ⌝ }
 {
     let Fault::At(x) = a else {
         return b;
@@ -89,9 +90,9 @@ fn right(f: Field) -> bool
     value == 0
 }
 
-// The first field outside its rule.
+// The lowest offset of a field outside its rule: the first that is met in block order.
 pub fn fault(v: Setting) -> Fault
-    ensures { λ r. ⌜ r ≡ firstWrong (fieldsOf v) ⌝ }
+    ensures { λ r. ⌜ found r ≡ lowest (fieldsOf v) ⌝ }
 {
     let fs = fields(v);
     let mut k: usize = 0;
@@ -104,3 +105,8 @@ pub fn fault(v: Setting) -> Fault
     }
     Fault::Nowhere
 }
+
+// What is lowest does not depend on the order of the fields: no code, the statement and its proof.
+pub fn lowest_given()
+    ensures { λ _. ⌜ LowestGiven ⌝ }
+{}

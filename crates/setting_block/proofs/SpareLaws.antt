@@ -1,7 +1,8 @@
--- A loop over the zero bytes: the search from the place k on gives what the whole search gives.
+-- A loop over the zero bytes: the search from the place k on gives what the whole search gives, and their offsets rise.
 use mathlib.Core.Path.{_≡_, refl, ap, _∙_}
 use mathlib.Core.Bool.{true, cond}
 use mathlib.Core.List.{List, map}
+use mathlib.Core.Option.{none, some}
 use Prim.Native.Nat.{ℕ, zero, suc, _+_, _-_, _<_, _≤_}
 use native.Mathlib.Nat.{add-zero}
 use native.Mathlib.Omega.{arith}
@@ -13,9 +14,8 @@ use Rattle.lists.specs.Tests.{each}
 use Rattle.lists.proofs.Places.{getD-upTo, upTo-same, drop-next}
 use Rattle.lists.proofs.TestLaws.{split, is-true, each-get, test-each}
 use Rattle.block.specs.Bytes.{zeros}
-use Rattle.setting.specs.declared.Fault.the-variants.{Nowhere, At}
-use Rattle.setting.specs.Search.{firstWrong}
-use Rattle.setting.proofs.FieldLaws.{search-turn, search-done}
+use Rattle.setting.specs.Values.{lowest}
+use Rattle.setting.proofs.FieldLaws.{firstWrong, search-turn, search-done, first-lowest}
 use Rattle.setting_block.specs.Layout.{fewSpares, spareOffsets, spare, spares}
 
 -- ---- the place k: one of the few, or 65 + k
@@ -36,6 +36,12 @@ run-at k l h =
     let f : 74 + (k - 9) ≡ 65 + k = omega arith in
     rw (e, f) at (getD-append-add fewSpares run (k - 9) 0 ∙ getD-upTo 436 (λ i. 74 + i) (k - 9) 0 (omega arith))
 
+-- ---- the offsets rise
+
+pub spares-lowest : (s : List ℕ) → firstWrong (spares s) ≡ lowest (spares s)
+unfolding spares upTo
+spares-lowest s = first-lowest 0 (spares s) tt
+
 -- ---- one turn
 
 module _ (s : List ℕ) (k : ℕ) (inv : firstWrong (drop k (spares s)) ≡ firstWrong (spares s)) where
@@ -45,18 +51,18 @@ module _ (s : List ℕ) (k : ℕ) (inv : firstWrong (drop k (spares s)) ≡ firs
 
   pub spare-turn :
       {at : ℕ} → getD spareOffsets k 0 ≡ at → k < 445 →
-      firstWrong (spares s) ≡ cond (eqb (getD s at 0) 0) (firstWrong (drop (k + 1) (spares s))) (At at)
+      firstWrong (spares s) ≡ cond (eqb (getD s at 0) 0) (firstWrong (drop (k + 1) (spares s))) (some at)
   unfolding spares
   spare-turn {at} e h =
       search-turn (spares s) k inv (spare s 0) {f = spare s at} (List·getD-map (spare s) spareOffsets k 0 ∙ ap (spare s) e) (omega (arith, count))
 
-  pub spare-done : 445 ≤ k → Nowhere ≡ firstWrong (spares s)
+  pub spare-done : 445 ≤ k → none ≡ firstWrong (spares s)
   spare-done h = search-done (spares s) k inv (omega (arith, count))
 
 -- ---- the run from 74 on, where all of it is zero
 
 run-search : (s : List ℕ) (n at : ℕ) → at + n ≤ length s → T (each (λ x. eqb x 0) (take n (drop at s))) →
-    firstWrong (map (spare s) (upTo n (λ i. at + i))) ≡ Nowhere
+    firstWrong (map (spare s) (upTo n (λ i. at + i))) ≡ none
 unfolding upTo
 run-search s zero at l z = refl
 run-search s (suc n) at l z =
@@ -64,6 +70,6 @@ run-search s (suc n) at l z =
     let zero-at : eqb (getD s at 0) 0 ≡ true = is-true (h .0) in
     rw (add-zero at, zero-at, upTo-same n (λ i. at + suc i) (λ i. (at + 1) + i) (λ i j. omega arith)) (run-search s n (at + 1) (omega arith) (h .1))
 
-pub run-zero : (s : List ℕ) → length s ≡ 512 → zeros (take 436 (drop 74 s)) ≡ true → firstWrong (drop 9 (spares s)) ≡ Nowhere
+pub run-zero : (s : List ℕ) → length s ≡ 512 → zeros (take 436 (drop 74 s)) ≡ true → firstWrong (drop 9 (spares s)) ≡ none
 unfolding spares zeros
 run-zero s l z = run-search s 436 74 (omega arith) (rw z tt)

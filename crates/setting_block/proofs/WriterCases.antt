@@ -7,11 +7,10 @@ use lib.Dec.{ltb}
 use lib.ListN.{length, take, drop, replicate, length-append}
 use lib.Seq.{length-take-le, take-at, take-append-add, drop-append-add, drop-drop}
 use borrow.Author.Tests.{lt-ltb, le-ltb}
-use Rattle.lists.specs.Tests.{none}
 use Rattle.refusal.specs.declared.Refusal.{Refusal}
 use Rattle.refusal.specs.declared.Verdict.{Verdict}
 use Rattle.refusal.specs.declared.Verdict.the-variants.{Accepted, Refused}
-use Rattle.refusal.specs.Refusals.{toldOf, Row, declines, done, byOutcome, _when_, firstRefusal, outcomeOf, offsetsOf}
+use Rattle.refusal.specs.Refusals.{alone, toldOf, Row, declines, done, byOutcome, _when_, firstRefusal, outcomeOf}
 use Rattle.block.specs.Block.{sealed, bufferWith}
 use Rattle.setting.specs.declared.Setting.{Setting}
 use Rattle.setting.specs.Values.{storeRows}
@@ -44,19 +43,18 @@ module _ (v : Setting) (buffer : List ℕ) where
   room = (13 when ltb (length buffer) 512) ∷ []
 
   -- what the rows give, by the verdict on the values
-  rows-by : {r : Verdict} → Judges v r → writeOf v buffer ≡ byOutcome (outcomeOf r) declines (λ _. firstRefusal room)
+  rows-by : (r : Verdict) → Judges v r → writeOf v buffer ≡ byOutcome (outcomeOf r) declines (λ _. firstRefusal room)
   unfolding writeRows
-  rows-by {r} j = rw (j .outcome) (firstOf-++ (tt {0}) (tt {0}) room (storeRows v))
+  rows-by r j = rw j (firstOf-++ (tt {0}) (tt {0}) room (storeRows v))
 
-  pub not-sound : {q : Refusal} → Judges v (Refused q) → Writes v buffer (Refused q) buffer
-  not-sound j = let o : writeOf v buffer ≡ declines _ = rows-by j in record { outcome = sym o; bytes = rw o; offset = j .offset }
+  pub not-sound : (q : Refusal) → Judges v (Refused q) → Writes v buffer (Refused q) buffer
+  not-sound q j = let o : writeOf v buffer ≡ declines (toldOf q) = rows-by (Refused q) j in record { outcome = sym o; bytes = rw o }
 
   module _ (j : Judges v Accepted) where
-    -- a refusal that names no offset
-    pub no-room : length buffer < 512 → {q : Refusal} → toldOf q ≡ record { number = 13 } → offsetsOf q ≡ [] → Writes v buffer (Refused q) buffer
-    no-room h {q} e n =
-        let o : writeOf v buffer ≡ declines (toldOf q) = rows-by j ∙ rw (lt-ltb (length buffer) 512 h, e) in
-        record { outcome = sym o; bytes = rw o; offset = rw n none }
+    pub no-room : length buffer < 512 → (q : Refusal) → toldOf q ≡ alone 13 → Writes v buffer (Refused q) buffer
+    no-room h q e =
+        let o : writeOf v buffer ≡ declines (toldOf q) = rows-by Accepted j ∙ rw (lt-ltb (length buffer) 512 h, e) in
+        record { outcome = sym o; bytes = rw o }
 
     pub written : 512 ≤ length buffer → Writes v buffer Accepted (bufferWith buffer (blockOf v))
-    written h = let o : writeOf v buffer ≡ done = rows-by j ∙ rw (le-ltb (length buffer) 512 h) in record { outcome = sym o; bytes = rw o; offset = none }
+    written h = let o : writeOf v buffer ≡ done = rows-by Accepted j ∙ rw (le-ltb (length buffer) 512 h) in record { outcome = sym o; bytes = rw o }

@@ -5,15 +5,13 @@ use mathlib.Core.List.{List, [], _∷_, _++_}
 use Prim.Native.Nat.{ℕ}
 use lib.Dec.{eqb, ltb}
 use lib.ListN.{length}
-use Rattle.lists.specs.Tests.{Each}
 use Rattle.refusal.specs.declared.Verdict.{Verdict}
-use Rattle.refusal.specs.Refusals.{toldOf, Outcome, gives, declines, byOutcome, Row, _when_, firstOf, firstRefusal, offsetsOf}
+use Rattle.refusal.specs.Refusals.{toldOf, Outcome, gives, declines, byOutcome, Row, _when_, firstOf, firstRefusal}
 use Rattle.refusal.specs.Refusals as R
 use Rattle.block.specs.Block.{checked, bufferWith}
 use Rattle.setting.specs.declared.Field.{Field}
 use Rattle.setting.specs.declared.Setting.{Setting}
 use Rattle.setting.specs.Values.{fields, valueRows, storeRows}
-use Rattle.setting.specs.Calls.{Wrong}
 use Rattle.setting_block.specs.declared.ReadSetting.{ReadSetting}
 use Rattle.setting_block.specs.declared.ReadSetting.the-variants.{Accepted, Refused}
 use Rattle.setting_block.specs.Layout.{settingAt, marked, spares, blockOf}
@@ -35,19 +33,14 @@ readRows s =
 abbrev pub readOf : List ℕ → Outcome Setting
 readOf s = firstOf (readRows s) (settingAt s)
 
--- the reader's answer in the table's terms, and the offset that it names
+-- the reader's answer in the table's terms
 abbrev pub outcomeOf : ReadSetting → Outcome Setting
 outcomeOf (Accepted v) = gives v
 outcomeOf (Refused r) = declines (toldOf r)
 
-abbrev pub offsets : ReadSetting → List ℕ
-offsets (Accepted v) = []
-offsets (Refused r) = offsetsOf r
-
 -- what reading the block s gives
-pub record Reads (s : List ℕ) (r : ReadSetting) : Type 0 where
-  pub outcome : outcomeOf r ≡ readOf s
-  pub offset : Each (Wrong (blockFields s)) (offsets r)
+abbrev pub Reads : List ℕ → ReadSetting → Type 0
+Reads s r = outcomeOf r ≡ readOf s
 
 -- ---- the writer
 
@@ -66,4 +59,3 @@ writeLeaves v buffer = byOutcome (writeOf v buffer) (λ refusal. buffer) (λ don
 pub record Writes (v : Setting) (before : List ℕ) (r : Verdict) (after : List ℕ) : Type 0 where
   pub outcome : R.outcomeOf r ≡ writeOf v before
   pub bytes : after ≡ writeLeaves v before
-  pub offset : Each (Wrong (fields v)) (R.offsets r)

@@ -5,7 +5,8 @@ ghost use Prim.Native.Nat.{_+_, _≤_};
 ghost use lib.ListN.{length};
 ghost use Rattle.setting_block.specs.Layout.{endAt, settingAt, marked as markedOf, fewSpares, spares};
 ghost use Rattle.setting_block.specs.Calls.{Reads};
-ghost use Rattle.setting.specs.Search.{firstWrong};
+ghost use Rattle.setting.specs.Values.{lowest};
+ghost use Rattle.setting.specs.Calls.{found};
 use crate::ReadSetting;
 use refusal::Refusal;
 use refusal::Verdict;
@@ -83,7 +84,7 @@ fn few_spares() -> [u16; 9]
 // The first byte that must be zero and is not: one of the few, or from 74 on, where most blocks have nothing but zeros.
 fn spare_fault(s: &[u8]) -> Fault
     requires { ⌜ length (now s) ≡ 512 ⌝ }
-    ensures { λ r. ⌜ r ≡ firstWrong (spares (now (s .entry))) ⌝ }
+    ensures { λ r. ⌜ found r ≡ lowest (spares (now (s .entry))) ⌝ }
 {
     let few = few_spares();
     let mut k: usize = 0;

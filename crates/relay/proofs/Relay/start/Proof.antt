@@ -21,11 +21,10 @@ returns c =
     let j = c .before .before .start-verdict .ensures in
     let v = c .before .before .before .args .v in
     record {
-      reply = j .outcome;
+      reply = j;
       relay =
           c .fresh .ensures
-          ∙ ap fresh (c .before .started-on .ensures ∙ ap (λ (o : Outcome (Unit {0})). byOutcome o (λ _. blank) (λ _. v)) (j .outcome));
-      offset = j .offset;
+          ∙ ap fresh (c .before .started-on .ensures ∙ ap (λ (o : Outcome (Unit {0})). byOutcome o (λ _. blank) (λ _. v)) j);
     }
 
 pub start-spec : {M : Type 1} → statement M

@@ -25,7 +25,7 @@ returns : tie.Need-returns
 returns c =
     let v = c .before .before .before .args .v in
     let j = subst (λ (r : Verdict). JudgesStart v r) (c .enum-told .given .1) (c .before .before .start-verdict .ensures) in
-    sym (is-true (gives-none (startRows v) _ _ (sym (j .outcome))))
+    sym (is-true (gives-none (startRows v) _ _ (sym j)))
 
 returns-2 : tie.Need-returns-2
 returns-2 c =
@@ -35,7 +35,7 @@ returns-2 c =
     (is-false
     (λ t.
     let e : firstRefusal (startRows v) ≡ done = none-gives (startRows v) t _ in
-    let z : _≡_ {A = ℕ} 0 1 = cc (j .outcome) in
+    let z : _≡_ {A = ℕ} 0 1 = cc j in
     omega arith))
 
 pub sound-spec : {M : Type 1} → statement M

@@ -3,18 +3,18 @@
 use mathlib.Core.Path.{_≡_, sym, _∙_}
 use mathlib.Core.Bool.{true, false}
 use mathlib.Core.List.{List, _++_}
+use mathlib.Core.Option.{none}
 use native.Mathlib.Omega.{arith}
 use lib.Dec.{ltb}
 use borrow.Author.Needs.{needs}
 use borrow.Author.Tests.{le-leb, lt-leb, lt-ltb, le-ltb}
-use Rattle.lists.specs.Tests.{none, _&_}
 use Rattle.setting.specs.declared.Setting.{Setting}
 use Rattle.setting.specs.declared.Fault.{Fault}
 use Rattle.setting.specs.declared.Field.{Field}
-use Rattle.setting.specs.Values.{between, fields, allRight, factorHigh, factorsLow, valueRows}
+use Rattle.setting.specs.Values.{between, fields, allRight, lowest, factorHigh, factorsLow, valueRows}
 use Rattle.setting.specs.Limits.{Limits}
-use Rattle.setting.specs.Search.{firstWrong}
-use Rattle.setting.proofs.FieldLaws.{Tells, tells-sooner, first-right}
+use Rattle.setting.specs.Calls.{found}
+use Rattle.setting.proofs.FieldLaws.{lowest-++, lower-none, some-wrong, none-wrong}
 use Rattle.setting.proofs.FactorLaws.{high-is, low-is}
 use Rattle.setting.proofs.LimitLaws.{limits-of}
 use Rattle.setting.proofs.judging.verdict_beside.Statement.{statement}
@@ -22,13 +22,13 @@ use Rattle.setting.proofs.judging.verdict_beside.Tie as tie
 
 returns : tie.Need-returns
 unfolding valueRows
-returns c gs g = record { outcome = rw (lt-leb 2 (c .before .before .args .v .ends) (omega (arith, c .if1 .taken))); offset = none }
+returns c gs g = rw (lt-leb 2 (c .before .before .args .v .ends) (omega (arith, c .if1 .taken)))
 
 returns-2 : tie.Need-returns-2
 unfolding valueRows
 returns-2 c gs g =
     let n = c .before .before .before .before .args .v .ends in
-    record { outcome = rw (le-leb 2 n (omega (arith, c .before .before .if1 .left)), lt-leb n 4 (omega (arith, c .if2 .taken))); offset = none }
+    rw (le-leb 2 n (omega (arith, c .before .before .if1 .left)), lt-leb n 4 (omega (arith, c .if2 .taken)))
 
 -- where the number of ends is 2 to 4
 module _ (c : tie.Else2) where
@@ -47,11 +47,11 @@ fault-requires c κs = search needs
 sooner-requires : tie.Need-sooner-requires
 sooner-requires c κs = search needs
 
--- what the two searches tell of all fields
-told :
-    (c : tie.After-sooner) (gs : List Field) → beside (c .before .before) ≡ firstWrong gs →
-    Tells (fields (v (c .before .before)) ++ gs) (c .sooner .result)
-told c gs g = tells-sooner (fields (v (c .before .before))) gs (c .before .fault .ensures) g (c .sooner .ensures)
+-- the sooner of the two faults is the lowest of all fields
+found-is :
+    (c : tie.After-sooner) (gs : List Field) → found (beside (c .before .before)) ≡ lowest gs →
+    lowest (fields (v (c .before .before)) ++ gs) ≡ found (c .sooner .result)
+found-is c gs g = lowest-++ (fields (v (c .before .before))) gs ∙ rw (← (c .before .fault .ensures), ← g) (sym (c .sooner .ensures))
 
 enum-known-f : tie.Need-enum-known-f
 enum-known-f c = search needs
@@ -60,8 +60,8 @@ returns-3 : tie.Need-returns-3
 unfolding valueRows
 returns-3 c gs g =
     let s = c .before .before .before in
-    let t = rw (c .before .f .given .1) at (told s gs g) in
-    record { outcome = rw (ends (s .before .before), t .0); offset = t .1 & none }
+    let at = rw (c .before .f .given .1) at (found-is s gs g) in
+    rw (ends (s .before .before), some-wrong (fields (v (s .before .before)) ++ gs) at, at)
 
 enum-told : tie.Need-enum-told
 enum-told c = search needs
@@ -71,13 +71,14 @@ module _ (c : tie.After-enum-told) where
   abbrev e : tie.Else2
   e = c .before .before .before .before
 
-  right : (gs : List Field) → beside e ≡ firstWrong gs → allRight (fields (v e) ++ gs) ≡ true
-  right gs g = rw (c .enum-told .given .1) at (told (c .before .before) gs g)
+  right : (gs : List Field) → found (beside e) ≡ lowest gs → allRight (fields (v e) ++ gs) ≡ true
+  right gs g = none-wrong (fields (v e) ++ gs) (rw (c .enum-told .given .1) at (found-is (c .before .before) gs g))
 
   limits : Limits (v e)
   limits =
       let s = c .before .before in
-      let f = first-right (fields (v e)) _ _ (s .before .fault .ensures) (sym (s .sooner .ensures) ∙ c .enum-told .given .1) in
+      let nowhere : found (s .before .fault .result) ≡ none = lower-none _ _ (sym (s .sooner .ensures) ∙ rw (c .enum-told .given .1)) in
+      let f = none-wrong (fields (v e)) (sym (s .before .fault .ensures) ∙ nowhere) in
       limits-of (v e) (rw f tt) (e .before .before .if1 .left) (e .if2 .left)
 
 factors-requires : tie.Need-factors-requires
@@ -91,7 +92,7 @@ unfolding valueRows
 returns-4 c gs g =
     let n = c .before .before .before in
     let high = high-is (limits n) (c .before .before .factors .ensures) (c .before .how-many .ensures) in
-    record { outcome = rw (ends (e n), right n gs g, high, lt-ltb _ _ (c .if3 .taken)); offset = none }
+    rw (ends (e n), right n gs g, high, lt-ltb _ _ (c .if3 .taken))
 
 how-many-requires-2 : tie.Need-how-many-requires-2
 how-many-requires-2 c κs = search needs
@@ -113,13 +114,13 @@ returns-5 : tie.Need-returns-5
 unfolding valueRows
 returns-5 c gs g =
     let b = c .before in
-    record { outcome = rw (ends (e (n b)), right (n b) gs g, not-high b, low b, lt-ltb _ _ (c .if4 .taken)); offset = none }
+    rw (ends (e (n b)), right (n b) gs g, not-high b, low b, lt-ltb _ _ (c .if4 .taken))
 
 returns-6 : tie.Need-returns-6
 unfolding valueRows
 returns-6 c gs g =
     let b = c .before in
-    record { outcome = rw (ends (e (n b)), right (n b) gs g, not-high b, low b, le-ltb _ _ (c .if4 .left)); offset = none }
+    rw (ends (e (n b)), right (n b) gs g, not-high b, low b, le-ltb _ _ (c .if4 .left))
 
 pub verdict-beside-spec : {M : Type 1} → statement M
 verdict-beside-spec =

@@ -1,12 +1,13 @@
--- `setting::rules::fault` meets its contract. The loop's invariant: the search from k on gives what the whole search gives. The measure is what is left.
+-- `setting::rules::fault` meets its contract. The loop's invariant: the search from k on gives what the whole search gives; the fields stand in block
+-- order, so that it gives the lowest offset. The measure is what is left.
 use borrow.Author.Needs.{needs}
 use borrow.Author.Tests.{not-true, not-false}
 use mathlib.Core.Path.{_≡_, refl, sym, ap, _∙_}
 use mathlib.Core.Bool.{false}
 use Prim.Native.Nat.{_-_, _≤_}
 use lib.ListN.{drop}
-use Rattle.setting.specs.Search.{firstWrong}
-use Rattle.setting.proofs.FieldLaws.{search-turn, search-done}
+use Rattle.setting.specs.Values.{fields, lowest}
+use Rattle.setting.proofs.FieldLaws.{firstWrong, search-turn, search-done, first-lowest}
 use Rattle.setting.proofs.rules.fault.Statement.{statement}
 use Rattle.setting.proofs.rules.fault.Tie as tie
 
@@ -15,6 +16,10 @@ Inv-loop fs k₀ k = (k ≤ 26) × (firstWrong (drop k fs) ≡ firstWrong fs)
 
 abbrev μ-loop : tie.MeasureT-loop
 μ-loop fs k₀ k = 26 - k
+
+-- the fields' offsets rise
+first-is : (c : tie.After-fields Inv-loop μ-loop) → firstWrong (c .fields .result) ≡ lowest (fields (c .before .args .v))
+first-is c = ap firstWrong (c .fields .ensures) ∙ first-lowest 0 (fields (c .before .args .v)) tt
 
 fields-requires : tie.Need-fields-requires Inv-loop μ-loop
 fields-requires c κs = search needs
@@ -36,7 +41,7 @@ returns c =
     let b = c .before in
     let l = b .before .before .before in
     let turn = search-turn (l .before .fields .result) (l .loop .k) (l .loop .inv .1) (0, false, 0, 0, 0) refl (search needs) in
-    sym (turn ∙ rw (sym (b .right .ensures) ∙ not-true (b .right .result) (c .if1 .taken))) ∙ ap firstWrong (l .before .fields .ensures)
+    sym (turn ∙ rw (sym (b .right .ensures) ∙ not-true (b .right .result) (c .if1 .taken))) ∙ first-is (l .before)
 
 add-k : tie.Need-add-k Inv-loop μ-loop
 add-k c = search needs
@@ -54,7 +59,7 @@ loop-again c =
 returns-2 : tie.Need-returns-2 Inv-loop μ-loop
 returns-2 c =
     let f = c .before .before .fields in
-    search-done (f .result) (c .before .loop .k) (c .before .loop .inv .1) (search needs) ∙ ap firstWrong (f .ensures)
+    search-done (f .result) (c .before .loop .k) (c .before .loop .inv .1) (search needs) ∙ first-is (c .before .before)
 
 pub fault-spec : {M : Type 1} → statement M
 fault-spec =

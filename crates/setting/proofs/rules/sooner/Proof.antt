@@ -1,6 +1,7 @@
 -- `setting::rules::sooner` meets its contract, by the cases of the two faults and the test of their offsets.
 use borrow.Author.Needs.{needs}
-use borrow.Author.Tests.{le-leb, lt-leb}
+use native.Mathlib.Omega.{arith}
+use Rattle.setting.proofs.FieldLaws.{lower-left, lower-right}
 use Rattle.setting.proofs.rules.sooner.Statement.{statement}
 use Rattle.setting.proofs.rules.sooner.Tie as tie
 
@@ -23,10 +24,10 @@ returns-2 : tie.Need-returns-2
 returns-2 c = rw (c .before .before .before .a .given .1, c .enum-told2 .given .1)
 
 returns-3 : tie.Need-returns-3
-returns-3 c = rw (c .before .before .before .before .before .a .given .1, c .before .before .b .given .1, le-leb _ _ (c .if1 .taken))
+returns-3 c = rw (c .before .before .before .before .before .a .given .1, c .before .before .b .given .1) (lower-left (omega (arith, c .if1 .taken)))
 
 returns-4 : tie.Need-returns-4
-returns-4 c = rw (c .before .before .before .before .before .a .given .1, c .before .before .b .given .1, lt-leb _ _ (c .if1 .left))
+returns-4 c = rw (c .before .before .before .before .before .a .given .1, c .before .before .b .given .1) (lower-right (omega (arith, c .if1 .left)))
 
 pub sooner-spec : {M : Type 1} → statement M
 sooner-spec =

@@ -6,9 +6,9 @@ use mathlib.Core.Path.{_≡_, sym, _∙_}
 use Prim.Native.Nat.{_-_, _≤_}
 use native.Mathlib.Omega.{arith}
 use lib.ListN.{drop}
-use Rattle.setting.specs.Search.{firstWrong}
+use Rattle.setting.proofs.FieldLaws.{firstWrong}
 use Rattle.setting_block.specs.Layout.{spares}
-use Rattle.setting_block.proofs.SpareLaws.{few-at, few-in, run-at, run-zero, spare-turn, spare-done}
+use Rattle.setting_block.proofs.SpareLaws.{few-at, few-in, run-at, run-zero, spare-turn, spare-done, spares-lowest}
 use Rattle.setting_block.proofs.reader.spare_fault.Statement.{statement}
 use Rattle.setting_block.proofs.reader.spare_fault.Tie as tie
 
@@ -49,7 +49,7 @@ returns c =
     let l = c .before .before .before in
     let place = few-at (l .before .few-spares .ensures) (l .loop .k) (search needs) in
     let turn = spare-turn (l .before .before .before .args .s .now) (l .loop .k) (l .loop .inv .1) place (omega arith) in
-    sym (turn ∙ rw (ne-eqb _ _ (c .if1 .taken)))
+    sym (turn ∙ rw (ne-eqb _ _ (c .if1 .taken))) ∙ spares-lowest _
 
 add-k : tie.Need-add-k Inv-loop μ-loop Inv-loop2 μ-loop2
 add-k c = search needs
@@ -81,7 +81,7 @@ returns-2 c =
     let l = c .before .before .before .before in
     let start = l .before .before .before in
     let e : l .loop .k ≡ 9 = omega arith in
-    sym (run-zero (start .args .s .now) (start .pre) (sym (c .before .zeros .ensures) ∙ c .if2 .taken)) ∙ (rw e at (l .loop .inv .1))
+    sym (run-zero (start .args .s .now) (start .pre) (sym (c .before .zeros .ensures) ∙ c .if2 .taken)) ∙ (rw e at (l .loop .inv .1)) ∙ spares-lowest _
 
 loop2-holds : tie.Need-loop2-holds Inv-loop μ-loop Inv-loop2 μ-loop2
 loop2-holds c = search needs
@@ -101,7 +101,7 @@ returns-3 c =
     let k = l .loop2 .k in
     let start = l .before .before .before .before .before .before .before .before in
     let turn = spare-turn (start .args .s .now) k (l .loop2 .inv .2) (run-at k (search needs) (search needs)) (search needs) in
-    sym (turn ∙ rw (ne-eqb _ _ (c .if3 .taken)))
+    sym (turn ∙ rw (ne-eqb _ _ (c .if3 .taken))) ∙ spares-lowest _
 
 add-k-2 : tie.Need-add-k-2 Inv-loop μ-loop Inv-loop2 μ-loop2
 add-k-2 c = search needs
@@ -121,7 +121,7 @@ returns-4 : tie.Need-returns-4 Inv-loop μ-loop Inv-loop2 μ-loop2
 returns-4 c =
     let l = c .before in
     let start = l .before .before .before .before .before .before .before .before in
-    spare-done (start .args .s .now) (l .loop2 .k) (l .loop2 .inv .2) (search needs)
+    spare-done (start .args .s .now) (l .loop2 .k) (l .loop2 .inv .2) (search needs) ∙ spares-lowest _
 
 pub spare-fault-spec : {M : Type 1} → statement M
 spare-fault-spec =

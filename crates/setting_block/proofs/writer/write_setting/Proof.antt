@@ -13,13 +13,13 @@ enum-known-r : tie.Need-enum-known-r
 enum-known-r c = search needs
 
 returns : tie.Need-returns
-returns c = not-sound _ _ (rw (c .before .r .given .1) at (c .before .before .before .verdict .ensures))
+returns c = not-sound _ _ _ (rw (c .before .r .given .1) at (c .before .before .before .verdict .ensures))
 
 enum-told : tie.Need-enum-told
 enum-told c = search needs
 
 returns-2 : tie.Need-returns-2
-returns-2 c = no-room _ _ (rw (c .before .enum-told .given .1) at (c .before .before .before .verdict .ensures)) (omega arith) refl refl
+returns-2 c = no-room _ _ (rw (c .before .enum-told .given .1) at (c .before .before .before .verdict .ensures)) (omega arith) _ refl
 
 block-of-requires : tie.Need-block-of-requires
 block-of-requires c κs = search needs
