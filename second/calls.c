@@ -7,8 +7,13 @@
  * a write, byte 1 the value written, and bytes 4 to 11 the offset. A view block
  * is one read of each byte of the page. Between calls, a change block puts a part
  * of the relay record to another value, and a print block has the record
- * printed. Some records come once more with every sample negated: the answers
- * must be the same. */
+ * printed. A begin block starts a relay on the setting values that the record
+ * holds, and writes them to a buffer of 600 bytes and then to one of 511: three
+ * lines, `start N`, `write N` and `short N`; the record stays as it is. A setting
+ * block that is refused leaves no relay, and what comes then is passed over up to
+ * the next setting block. Where setting, start or writer answer 5, a space and the
+ * offset come behind it. Some records come once more with every sample negated:
+ * the answers must be the same. */
 #include "parts.h"
 
 #include <stdarg.h>
@@ -20,22 +25,38 @@
 #define ROUND 10            /* changes in a record of calls and changes */
 #define ROUNDS (3 * CHANGES / ROUND)
 #define WATCHED 30          /* records of sets watched one by one */
+#define FAULTY 36           /* records of setting blocks with faults */
+#define FAULTY_BLOCKS 200   /* of them in a record */
+#define PAIRED 12           /* records of values with neighbours wrong */
+#define UNSOUND 36          /* records of values with any wrong */
+#define UNSOUND_CASES 12    /* times that values are made wrong in such a record */
+#define LIMITS (RECORDS + ROUNDS)
+#define FAULTY_FROM (LIMITS + 1 + WATCHED)
+#define VALUES_FROM (FAULTY_FROM + FAULTY)
+#define ALL_RECORDS (VALUES_FROM + PAIRED + UNSOUND)
 #define MOST_BLOCKS 250
 #define MOST_TEXT 65536     /* that a record's answers take */
 #define TURNED 11           /* one of so many records of calls comes turned too */
 #define PAGE_CALLS 42       /* that a page block can hold */
 #define PAGE_CALL_BYTES 12
+#define PLACES 471          /* fields of refusal 5 in a block, spare bytes too */
+#define NEAR_PLACES 35      /* of them in the first 74 bytes */
+#define NUMBERS 26          /* of them not spare bytes */
+#define MOST_FAULTS 6       /* fields made wrong at once */
+#define BEGIN_KIND 0x42
 #define PAGE_KIND 0x47
 #define LIST_KIND 0x4C
 #define PRINT_KIND 0x50
 #define RESET_KIND 0x52
 #define SAMPLE_KIND 0x53
+#define SETTING_KIND 0x54
 #define VIEW_KIND 0x56
 
 enum scene_kind { HEALTHY, FAULT, INRUSH, BURSTS, NOISE };
 
 /* One record: its blocks, whether all its sets are a healthy bank's, and
- * whether the relay record came through each refusal 12 as it was. */
+ * whether the relay record came through each refusal 12 and each begin block as it
+ * was. */
 struct record {
     uint8_t block[MOST_BLOCKS][BLOCK_BYTES];
     size_t blocks, calls, followed;
@@ -84,6 +105,29 @@ static struct {
     unsigned read[PAGE_BYTES], written[10], resets[4], raised[8], cleared[8];
     unsigned goes_on[2], beside[2], turns[2], changed[6];
 } paged;
+
+/* A setting is judged in a block, or by its values alone. For both, the fields of
+ * refusal 5 in block order; values have no spare bytes. */
+enum judged { IN_BLOCK, IN_VALUES, JUDGED };
+static const size_t places[JUDGED] = {PLACES, NUMBERS};
+static struct field place[JUDGED][PLACES];
+
+/* What a run has of judged settings: answers by refusal; answers 5 by how many
+ * fields are wrong, up to six, for 2, 3 and 4 ends by the first wrong field, and
+ * by fields that are wrong together with the one before; where the first is of an
+ * unused end, by its only byte that isn't zero, from 36 on; answers 5 where 6 or 7
+ * would come otherwise; and answers that are not right. */
+static struct {
+    unsigned refused[8], at_once[MOST_FAULTS + 1], first[3][PLACES], pair[3][PLACES];
+    unsigned lone[2][24], factors[2], wrong;
+} faulty[JUDGED];
+
+/* How fields are made wrong: one below the range, one above, all ones, by one
+ * byte, or by one byte of a zero; which byte that one is; faults beside refusals
+ * 2, 3 and 4 of a block and 4 of values; and begin blocks that are passed over. */
+static struct {
+    unsigned how[5], byte[4], beside[4], passed;
+} made;
 
 /* Writes a part of an answer down; nowhere while a record is only followed. */
 static struct outcome *heard;
@@ -481,6 +525,42 @@ static void build_refused(struct draw *d, size_t i, struct record *r)
     add_samples(d, &scene, r, 0);
 }
 
+/* ---- Fields in block order ---- */
+
+/* Lists the fields: those of FIELD behind E, and the spare bytes between them. */
+static void list_places(void)
+{
+    const struct field *next = FIELD + 1;
+    size_t all = 0, numbers = 0;
+
+    for (size_t at = 5; at < 510; at += place[IN_BLOCK][all++].width) {
+        place[IN_BLOCK][all] = (struct field){at, 1, 0, 0};
+        if (next < FIELD + FIELDS && next->at == at) {
+            place[IN_BLOCK][all] = *next;
+            place[IN_VALUES][numbers++] = *next++;
+        }
+    }
+}
+
+/* A field with its range in a setting of so many ends. */
+static struct field field_of(const struct field *f, size_t ends)
+{
+    struct field own = *f;
+
+    if (f->at >= 12 + 12 * ends && f->at < 60)
+        own.low = own.high = 0;
+    return own;
+}
+
+/* Whether a field of a block is outside its range. */
+static int field_wrong(const uint8_t *block, const struct field *f)
+{
+    struct field own = field_of(f, block[4]);
+    uint32_t value = get_field(block, f);
+
+    return value < own.low || value > own.high;
+}
+
 /* ---- Answers ---- */
 
 /* Whether an answer is one that a healthy bank may get. */
@@ -828,6 +908,91 @@ static int print_record(const struct relay *relay)
     return 1;
 }
 
+/* The only byte of a field that isn't zero, or 0 where there are more. */
+static size_t lone_byte(const uint8_t *block, const struct field *f)
+{
+    size_t byte = 0;
+
+    for (size_t at = f->at; at < f->at + f->width; at++)
+        if (block[at] != 0) {
+            if (byte != 0)
+                return 0;
+            byte = at;
+        }
+    return byte;
+}
+
+/* The refusal of values if only what the factors are made of could be wrong. */
+static enum refusal factor_fault(const uint8_t *block)
+{
+    struct setting s = plain_setting, values;
+    size_t offset;
+
+    take_setting(block, &values);
+    s.ends = values.ends;
+    s.power = values.power;
+    for (size_t z = 0; z < s.ends; z++) {
+        s.end[z].voltage = values.end[z].voltage;
+        s.end[z].current = values.end[z].current;
+    }
+    return setting_refusal(&s, &offset);
+}
+
+/* Counts a setting with n fields wrong, number k the first. */
+static void count_wrong(enum judged judged, const uint8_t *block, size_t n, size_t k)
+{
+    size_t ends = block[4], byte = lone_byte(block, &place[judged][k]);
+    enum refusal factors = factor_fault(block);
+
+    faulty[judged].at_once[n <= MOST_FAULTS ? n : 0]++;
+    faulty[judged].first[ends - 2][k]++;
+    if (byte >= 12 + 12 * ends && byte < 60)
+        faulty[judged].lone[ends - 2][byte - 36]++;
+    if (factors == FACTOR_TOO_HIGH || factors == FACTOR_TOO_LOW)
+        faulty[judged].factors[factors - FACTOR_TOO_HIGH]++;
+}
+
+/* Counts a judged setting by its wrong fields; whether they ask for this answer. */
+static int faults_answered(enum judged judged, const uint8_t *block,
+                           enum refusal refusal, size_t offset)
+{
+    size_t first = 0, n = 0;
+    int last = 0;
+
+    for (size_t k = 0; k < places[judged]; k++) {
+        int wrong = field_wrong(block, &place[judged][k]);
+
+        faulty[judged].pair[block[4] - 2][k] += (unsigned)(wrong && last);
+        if (wrong && n++ == 0)
+            first = k;
+        last = wrong;
+    }
+    if (n == 0)
+        return refusal != FIELD_WRONG && offset == 0;
+    count_wrong(judged, block, n, first);
+    return refusal == FIELD_WRONG && offset == place[judged][first].at;
+}
+
+/* Counts a judged setting; up to refusal 4 its fields don't matter. */
+static void count_judged(enum judged judged, const uint8_t *block,
+                         enum refusal refusal, size_t offset)
+{
+    faulty[judged].refused[refusal]++;
+    if (refusal == ACCEPTED || refusal >= FIELD_WRONG)
+        faulty[judged].wrong += !faults_answered(judged, block, refusal, offset);
+    else
+        faulty[judged].wrong += offset != 0;
+}
+
+/* The line of a judged setting. */
+static void say_judged(const char *what, enum refusal refusal, size_t offset)
+{
+    say("%s %d", what, refusal);
+    if (refusal == FIELD_WRONG)
+        say(" %zu", offset);
+    say("\n");
+}
+
 /* Starts a relay on a setting block; whether there is one now. */
 static int setting_call(struct relay *relay, const uint8_t *block, size_t length)
 {
@@ -837,8 +1002,45 @@ static int setting_call(struct relay *relay, const uint8_t *block, size_t length
 
     if (refusal == ACCEPTED)
         refusal = relay_start(&s, relay, &offset);
-    say("setting %d\n", refusal);
+    say_judged("setting", refusal, offset);
+    if (heard != NULL)
+        count_judged(IN_BLOCK, block, refusal, offset);
     return refusal == ACCEPTED;
+}
+
+/* Counts a begin block by its start. The writer answers like it, but that a
+ * buffer can be too short. */
+static void count_begin(const struct setting *s, const enum refusal refusal[3],
+                        const size_t offset[3])
+{
+    enum refusal later = refusal[0] == ACCEPTED ? BUFFER_TOO_SHORT : refusal[0];
+    uint8_t block[BLOCK_BYTES];
+
+    if (heard == NULL)
+        return;
+    lay_setting(s, block);
+    count_judged(IN_VALUES, block, refusal[0], offset[0]);
+    faulty[IN_VALUES].wrong += refusal[1] != refusal[0] || refusal[2] != later ||
+                               offset[1] != offset[0] || offset[2] != offset[0];
+}
+
+/* The start and both writes of a begin block, and their lines. */
+static int begin_call(const struct relay *relay)
+{
+    const struct setting *s = &relay->setting;
+    uint8_t buffer[600];
+    enum refusal refusal[3];
+    size_t offset[3];
+    struct relay fresh;
+
+    refusal[0] = relay_start(s, &fresh, &offset[0]);
+    refusal[1] = write_setting(s, buffer, sizeof buffer, &offset[1]);
+    refusal[2] = write_setting(s, buffer, BLOCK_BYTES - 1, &offset[2]);
+    say_judged("start", refusal[0], offset[0]);
+    say_judged("write", refusal[1], offset[1]);
+    say_judged("short", refusal[2], offset[2]);
+    count_begin(s, refusal, offset);
+    return 1;
 }
 
 /* A block after the setting, by its kind. */
@@ -851,6 +1053,7 @@ static int call_block(struct relay *relay, const uint8_t *block)
     case PRINT_KIND: return print_record(relay);
     case PAGE_KIND: return page_calls(relay, block);
     case VIEW_KIND: return view_page(relay);
+    case BEGIN_KIND: return begin_call(relay);
     default: return reset_call(relay);
     }
 }
@@ -979,6 +1182,301 @@ static void build_limits(struct draw *d, struct record *r)
         add_unfilled(d, &scene, r, &relay, fill);
 }
 
+/* ---- Faulty settings ---- */
+
+/* A value with one byte other than that of a sound one, and outside the range. */
+static uint32_t one_byte_off(struct draw *d, const struct field *f, uint32_t sound)
+{
+    uint32_t value;
+    size_t byte;
+
+    do {
+        byte = (size_t)draw_from(d, 0, (int64_t)f->width - 1);
+        value = sound ^ (uint32_t)draw_from(d, 1, 255) << (8 * byte);
+    } while (value >= f->low && value <= f->high);
+    made.byte[byte]++;
+    return value;
+}
+
+/* Makes a field wrong: one that must be 0 by one of its bytes, others by one below
+ * the range (if 0 is outside it), one above, all ones, or one byte. */
+static void spoil_field(struct draw *d, const struct field *f, unsigned how,
+                        uint8_t *block)
+{
+    struct field own = field_of(f, block[4]);
+    uint32_t value = get_field(block, f);
+
+    if (own.high == 0) {
+        value = (uint32_t)draw_spread(d, 1, 255) << (8 * (how % f->width));
+        how = 4;
+    } else if (how == 0 && own.low > 0) {
+        value = own.low - 1;
+    } else if (how <= 1) {
+        how = 1;
+        value = own.high + 1;
+    } else {
+        value = how == 2 ? UINT32_MAX : one_byte_off(d, &own, value);
+    }
+    made.how[how]++;
+    put_field(block, f, value);
+}
+
+/* Whether i is among n numbers. */
+static int among(const size_t *list, size_t n, size_t i)
+{
+    while (n > 0 && list[n - 1] != i)
+        n--;
+    return n > 0;
+}
+
+/* So many different fields: one of two lies near to the one before it, and most
+ * of the others in the first 74 bytes. */
+static void draw_places(struct draw *d, enum judged judged, size_t n, size_t *list)
+{
+    int64_t all = (int64_t)places[judged];
+    int64_t near = judged == IN_BLOCK ? NEAR_PLACES : NUMBERS;
+
+    for (size_t k = 0; k < n;) {
+        int64_t i = draw_from(d, 0, (draw_chance(d, 70) ? near : all) - 1);
+
+        if (k > 0 && draw_chance(d, 50))
+            i = (int64_t)list[k - 1] + draw_from(d, -3, 3);
+        if (i >= 0 && i < all && !among(list, k, (size_t)i))
+            list[k++] = (size_t)i;
+    }
+}
+
+/* Makes two to six fields of a block wrong. */
+static void spoil_some(struct draw *d, uint8_t *block)
+{
+    size_t list[MOST_FAULTS], n = (size_t)draw_from(d, 2, MOST_FAULTS);
+
+    draw_places(d, IN_BLOCK, n, list);
+    for (size_t k = 0; k < n; k++) {
+        unsigned how = (unsigned)draw_from(d, 0, 3);
+
+        spoil_field(d, &place[IN_BLOCK][list[k]], how, block);
+    }
+    seal_block(block);
+}
+
+/* Field number i of a block and its neighbour, if there is one: how, below 16, is
+ * the way of either; from 16 on, of the field alone. */
+static void spoil_pair(struct draw *d, size_t i, unsigned how, uint8_t *block)
+{
+    spoil_field(d, &place[IN_BLOCK][i], how % 4, block);
+    if (how < 16 && i + 1 < PLACES)
+        spoil_field(d, &place[IN_BLOCK][i + 1], how / 4, block);
+    seal_block(block);
+}
+
+/* A setting whose fields are in order, and its factors not. */
+static void draw_refused(struct draw *d, enum refusal wanted, struct setting *s)
+{
+    size_t offset;
+
+    do {
+        draw_wide_setting(d, s);
+    } while (setting_refusal(s, &offset) != wanted);
+}
+
+/* Wrong fields and beside them, in turn, a wrong check, mark or number of ends,
+ * or factors that would be refused. */
+static void spoil_beside(struct draw *d, size_t n, uint8_t *block)
+{
+    static const uint8_t ends[4] = {0, 1, 5, 255};
+    enum refusal wanted = (enum refusal)(CHECK_WRONG + n % 5), refusal;
+    struct setting s;
+    size_t offset;
+
+    if (n % 5 >= 3) {
+        wanted = FIELD_WRONG;
+        draw_refused(d, n % 5 == 3 ? FACTOR_TOO_HIGH : FACTOR_TOO_LOW, &s);
+        lay_setting(&s, block);
+    }
+    spoil_some(d, block);
+    if (wanted == MARK_WRONG)
+        block[draw_from(d, 1, 3)] ^= (uint8_t)draw_from(d, 1, 255);
+    if (wanted == ENDS_WRONG)
+        block[4] = ends[n / 5 % 4];
+    seal_block(block);
+    if (wanted == CHECK_WRONG)
+        block[draw_from(d, 1, 511)] ^= (uint8_t)draw_from(d, 1, 254);
+    refusal = read_setting(block, BLOCK_BYTES, &s, &offset);
+    faulty[IN_BLOCK].wrong += refusal != wanted;
+    if (wanted != FIELD_WRONG)
+        made.beside[wanted - CHECK_WRONG]++;
+}
+
+/* Faulty setting block number n, from sound ones of 2, 3 and 4 ends: each field of
+ * the first 74 bytes with its neighbour in every way, and alone; each later field
+ * with its neighbour; any fields; and these beside other faults. */
+static void lay_faulty(struct draw *d, size_t n, const struct setting sound[3],
+                       uint8_t *block)
+{
+    const size_t near = 3 * NEAR_PLACES * 20;
+    const size_t far = near + 3 * (PLACES - NEAR_PLACES), any = far + 3000;
+
+    lay_setting(&sound[n % 3], block);
+    if (n < near)
+        spoil_pair(d, n / 3 % NEAR_PLACES, (unsigned)(n / 3 / NEAR_PLACES), block);
+    else if (n < far)
+        spoil_pair(d, NEAR_PLACES + (n - near) / 3, (unsigned)draw_from(d, 0, 15),
+                   block);
+    else if (n < any)
+        spoil_some(d, block);
+    else
+        spoil_beside(d, n / 3, block);
+}
+
+/* A begin block. */
+static void add_begin(struct record *r)
+{
+    next_block(r)[0] = BEGIN_KIND;
+}
+
+/* A sound setting block and calls on its relay. */
+static void add_sound(struct draw *d, size_t i, struct record *r)
+{
+    struct scene scene;
+
+    draw_scene(d, i, &scene);
+    lay_setting(&scene.setting, next_block(r));
+    add_samples(d, &scene, r, 1);
+    add_begin(r);
+    add_view(r);
+    add_reset(r);
+}
+
+/* Record number i of faulty setting blocks: now and then calls that are passed
+ * over, and after each half a sound block. */
+static void build_faulty(struct draw *d, size_t i, struct record *r)
+{
+    struct setting sound[3];
+
+    for (uint8_t e = 0; e < 3; e++)
+        draw_setting(d, 2 + e, &sound[e]);
+    for (size_t k = 0; k < FAULTY_BLOCKS; k++) {
+        lay_faulty(d, FAULTY_BLOCKS * i + k, sound, next_block(r));
+        if (k % 40 == 20)
+            add_begin(r);
+        if (k % 40 == 39)
+            add_reset(r);
+        if (k % 100 == 99)
+            add_sound(d, i, r);
+    }
+}
+
+/* A setting from which power 1 leads to refusal 6, and power 50,000 to 7. */
+static void draw_movable(struct draw *d, uint8_t ends, struct setting *s)
+{
+    struct setting low, high;
+    size_t offset;
+
+    do {
+        draw_setting(d, ends, s);
+        low = high = *s;
+        low.power = 1;
+        high.power = 50000;
+    } while (setting_refusal(&low, &offset) != FACTOR_TOO_HIGH ||
+             setting_refusal(&high, &offset) != FACTOR_TOO_LOW);
+}
+
+/* A change that makes number k of the values' fields wrong. */
+static struct change wrong_value(struct draw *d, const struct relay *relay, size_t k,
+                                 unsigned how)
+{
+    const struct field *f = &place[IN_VALUES][k];
+    uint8_t block[BLOCK_BYTES];
+
+    lay_setting(&relay->setting, block);
+    spoil_field(d, f, how, block);
+    return (struct change){{SETTING_PART, (uint8_t)f->at}, get_field(block, f)};
+}
+
+/* Values changed, a begin block, the values of before, and one more. */
+static void add_changed_values(struct record *r, struct relay *relay,
+                               const struct change *change, size_t n)
+{
+    struct relay before = *relay;
+
+    for (size_t k = 0; k < n; k++)
+        add_change(r, relay, change[k]);
+    add_begin(r);
+    for (size_t k = 0; k < n; k++) {
+        struct part part = change[k].part;
+
+        add_change(r, relay, (struct change){part, part_value(&before, part)});
+    }
+    add_begin(r);
+    follow(r, relay);
+    if (!record_same(relay, &before))
+        r->kept = 0;
+}
+
+/* Each field of the values wrong with its neighbour, the last alone, in one of
+ * four ways. */
+static void add_pairs(struct draw *d, unsigned how, struct record *r,
+                      struct relay *relay)
+{
+    for (size_t k = 0; k < NUMBERS; k++) {
+        struct change change[2] = {wrong_value(d, relay, k, how)};
+        size_t n = k + 1 < NUMBERS ? 2 : 1;
+
+        if (n == 2)
+            change[1] = wrong_value(d, relay, k + 1, (unsigned)draw_from(d, 0, 3));
+        add_changed_values(r, relay, change, n);
+    }
+}
+
+/* Wrong values, none or two to six; beside them, in turn, nothing, E wrong, E
+ * another, or the power such that 6 or 7 would come. */
+static void add_unsound(struct draw *d, size_t turn, struct record *r,
+                        struct relay *relay)
+{
+    static const uint8_t ends[4] = {0, 1, 5, 255};
+    uint32_t wrong_ends = ends[draw_from(d, 0, 3)];
+    uint32_t other_ends = 2 + (relay->setting.ends - 1u) % 3;
+    const struct change beside[4] = {{{SETTING_PART, 4}, wrong_ends},
+                                     {{SETTING_PART, 4}, other_ends},
+                                     {{SETTING_PART, 8}, 1},
+                                     {{SETTING_PART, 8}, 50000}};
+    struct change change[MOST_FAULTS + 1];
+    size_t list[MOST_FAULTS], n = 0;
+    size_t wrong = draw_chance(d, 15) ? 0 : (size_t)draw_from(d, 2, MOST_FAULTS);
+
+    if (turn % 6 >= 2)
+        change[n++] = beside[turn % 6 - 2];
+    draw_places(d, IN_VALUES, wrong, list);
+    for (size_t k = 0; k < wrong; k++)
+        change[n++] = wrong_value(d, relay, list[k], (unsigned)draw_from(d, 0, 3));
+    made.beside[3] += turn % 6 == 2 && wrong != 0;
+    add_changed_values(r, relay, change, n);
+}
+
+/* Record number i of wrong values on a relay of 2, 3 or 4 ends: first those of
+ * neighbours. */
+static void build_values(struct draw *d, size_t i, struct record *r)
+{
+    struct scene scene = {.kind = NOISE};
+    struct relay relay;
+    size_t offset;
+
+    draw_movable(d, (uint8_t)(2 + i % 3), &scene.setting);
+    lay_setting(&scene.setting, next_block(r));
+    relay_start(&scene.setting, &relay, &offset);
+    r->followed = 1;
+    add_sets(d, &scene, r, 3, 0);
+    follow(r, &relay);
+    if (i < PAIRED)
+        add_pairs(d, (unsigned)(i / 3), r, &relay);
+    else
+        for (size_t turn = 0; turn < UNSOUND_CASES; turn++)
+            add_unsound(d, turn, r, &relay);
+    next_block(r)[0] = PRINT_KIND;
+    add_sets(d, &scene, r, 3, 0);
+}
+
 /* ---- Turned records ---- */
 
 /* A block with its samples negated; one that is refused, as it is. */
@@ -1029,14 +1527,19 @@ static int turned_alike(const struct outcome *turned, const struct outcome *befo
 /* ---- The run ---- */
 
 /* Record number i: first those of calls alone, each sixth of them on a refused
- * setting; then those with changes, and those of sets watched one by one. */
+ * setting; then those with changes, those of sets watched one by one, and those of
+ * faulty setting blocks and values. */
 static void build(struct draw *d, size_t i, struct record *r)
 {
     memset(r, 0, sizeof *r);
     r->kept = 1;
-    if (i > RECORDS + ROUNDS)
+    if (i >= VALUES_FROM)
+        build_values(d, i - VALUES_FROM, r);
+    else if (i >= FAULTY_FROM)
+        build_faulty(d, i - FAULTY_FROM, r);
+    else if (i > LIMITS)
         build_watched(d, i, r);
-    else if (i == RECORDS + ROUNDS)
+    else if (i == LIMITS)
         build_limits(d, r);
     else if (i >= RECORDS)
         build_changes(d, i - RECORDS, r);
@@ -1050,8 +1553,8 @@ static void build(struct draw *d, size_t i, struct record *r)
  * on a relay that starts. */
 static int comes_turned(size_t i)
 {
-    if (i > RECORDS + ROUNDS)
-        return i % TURNED == 0;
+    if (i > LIMITS)
+        return i < FAULTY_FROM && i % TURNED == 0;
     return i < RECORDS && i % 6 != 5 && (i / 6 * 5 + i % 6) % TURNED == 0;
 }
 
@@ -1065,14 +1568,21 @@ static int put_text(const struct outcome *out)
  * refused call changed the relay record. */
 static int put_expected(const struct record *r, struct outcome *out)
 {
-    int started, right = 1;
+    int started = 0, right = 1;
 
     memset(out, 0, sizeof *out);
     heard = out;
     told.healthy += (unsigned)r->healthy;
-    started = setting_call(&out->relay, r->block[0], BLOCK_BYTES);
-    for (size_t i = 1; started && i < r->blocks; i++)
-        right &= call_block(&out->relay, r->block[i]);
+    for (size_t i = 0; i < r->blocks; i++) {
+        const uint8_t *block = r->block[i];
+
+        if (block[0] == SETTING_KIND)
+            started = setting_call(&out->relay, block, BLOCK_BYTES);
+        else if (started)
+            right &= call_block(&out->relay, block);
+        else
+            made.passed += block[0] == BEGIN_KIND;
+    }
     heard = NULL;
     told.records++;
     paged.records += out->paged != 0;
@@ -1151,6 +1661,17 @@ static int tell(const char *what, const unsigned *number, size_t n)
     return all;
 }
 
+/* The least of some numbers. */
+static unsigned fewest(const unsigned *number, size_t n)
+{
+    unsigned least = number[0];
+
+    for (size_t i = 1; i < n; i++)
+        if (number[i] < least)
+            least = number[i];
+    return least;
+}
+
 /* Tells reads and writes of the page; whether each byte is read, each kind of
  * write is there, and each lot of faults that a call can have at once. */
 static int page_calls_told(void)
@@ -1160,15 +1681,12 @@ static int page_calls_told(void)
                                r[BEYOND | INADMISSIBLE]};
     const unsigned writes[6] = {w[0], w[FIXED], w[INADMISSIBLE], w[BEYOND | FIXED],
                                 w[FIXED | INADMISSIBLE], w[PAGE_FAULTS - 1]};
-    unsigned fewest = paged.read[0];
+    unsigned least = fewest(paged.read, PAGE_BYTES);
 
-    for (size_t i = 1; i < PAGE_BYTES; i++)
-        if (paged.read[i] < fewest)
-            fewest = paged.read[i];
     fprintf(stderr, "calls: %u records with page calls, %u of them turned; each "
             "byte read %u times or more; refusals out of order %u\n",
-            paged.records, paged.turned, fewest, paged.wrong);
-    return (fewest != 0 && paged.turned != 0 && paged.wrong == 0) &
+            paged.records, paged.turned, least, paged.wrong);
+    return (least != 0 && paged.turned != 0 && paged.wrong == 0) &
            tell("views (full; filling; filling, latched; 12)", paged.views, 4) &
            tell("page reads (0; 15; 12; 15 12)", reads, 4) &
            tell("page writes (0; 16; 12; 15 16; 16 12; 15 16 12)", writes, 6) &
@@ -1191,6 +1709,56 @@ static int page_events_told(void)
            tell("flags cleared (none, then 1 to 7)", paged.cleared, 8) &
            tell("byte 5 seen (to rise; to fall again)", paged.turns, 2) &
            tell("changed to 7, 8, 255 (flags; mask)", paged.changed, 6);
+}
+
+/* The bytes of unused ends' numbers, at 2 ends and at 3: how often at least each is
+ * the only one of the first wrong field that isn't zero. */
+static unsigned lone_least(enum judged judged)
+{
+    unsigned lone[30];
+    size_t n = 0;
+
+    for (size_t e = 0; e < 2; e++)
+        for (size_t i = 12 * e; i < 24; i++)
+            if (i % 12 < 10)
+                lone[n++] = faulty[judged].lone[e][i];
+    return fewest(lone, n);
+}
+
+/* Tells of blocks or of values which fields are wrong; whether each is the first
+ * and is wrong with its neighbour, at 2, 3 and 4 ends, and all is answered right. */
+static int fields_told(const char *what, enum judged judged)
+{
+    const unsigned lone = lone_least(judged), wrong = faulty[judged].wrong;
+    unsigned first[3], pair[3];
+
+    for (size_t e = 0; e < 3; e++) {
+        first[e] = fewest(faulty[judged].first[e], places[judged]);
+        pair[e] = fewest(faulty[judged].pair[e] + 1, places[judged] - 1);
+    }
+    fprintf(stderr, "calls: in %s each field wrong as the first %u, %u, %u times or "
+            "more, with its neighbour %u, %u, %u; each byte of an unused end alone "
+            "%u; answers not right %u\n", what, first[0], first[1], first[2],
+            pair[0], pair[1], pair[2], lone, wrong);
+    return (fewest(first, 3) != 0 && fewest(pair, 3) != 0) &
+           (lone != 0 && wrong == 0) &
+           tell("fields wrong at once, 2 to 6", faulty[judged].at_once + 2, 5) &
+           tell("5 where 6, 7 would come otherwise", faulty[judged].factors, 2);
+}
+
+/* Tells what the run has of faulty settings; whether all of it is there. */
+static int faults_told(void)
+{
+    const unsigned *r = faulty[IN_VALUES].refused;
+    const unsigned begun[5] = {r[0], r[4], r[5], r[6], r[7]};
+
+    return fields_told("blocks", IN_BLOCK) & fields_told("values", IN_VALUES) &
+           tell("setting blocks (0 to 7)", faulty[IN_BLOCK].refused, 8) &
+           tell("begin blocks (0; 4 to 7)", begun, 5) &
+           tell("begin blocks passed over", &made.passed, 1) &
+           tell("made wrong (below; above; ones; one byte; a zero)", made.how, 5) &
+           tell("that one byte, 0 to 3", made.byte, 4) &
+           tell("faults beside (2, 3, 4 of blocks; 4 of values)", made.beside, 4);
 }
 
 /* Tells what the run has; whether every kind of refusal 12 and of change is
@@ -1216,7 +1784,7 @@ static int all_told(void)
     return tell("refused 12", told.declined, ASKED) &
            tell("changes within the rules", within, 5) &
            tell("changes past them", past, 9) & page_calls_told() &
-           page_events_told();
+           page_events_told() & faults_told();
 }
 
 int main(int argc, char **argv)
@@ -1228,7 +1796,8 @@ int main(int argc, char **argv)
         fputs("usage: calls input|expect\n", stderr);
         return 2;
     }
-    for (size_t i = 0; i <= RECORDS + ROUNDS + WATCHED; i++)
+    list_places();
+    for (size_t i = 0; i < ALL_RECORDS; i++)
         if (!put(&d, i, input)) {
             fprintf(stderr, "calls: record %zu is not as it must be\n", i);
             return 1;

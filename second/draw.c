@@ -61,6 +61,16 @@ void put_field(uint8_t *block, const struct field *field, uint32_t value)
         block[field->at + i] = (uint8_t)(value >> (8 * i));
 }
 
+/* What a field holds. */
+uint32_t get_field(const uint8_t *block, const struct field *field)
+{
+    uint32_t value = 0;
+
+    for (size_t i = field->width; i > 0; i--)
+        value = value << 8 | block[field->at + i - 1];
+    return value;
+}
+
 /* ---- Settings ---- */
 
 const struct setting plain_setting = {

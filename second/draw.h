@@ -23,6 +23,7 @@ struct field {
 #define FIELDS 27
 extern const struct field FIELD[FIELDS];
 void put_field(uint8_t *block, const struct field *field, uint32_t value);
+uint32_t get_field(const uint8_t *block, const struct field *field);
 
 /* Settings. The plain one is document 01's: two ends of factor 1 and group 0,
  * no filter, no blocking. */

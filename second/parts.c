@@ -18,12 +18,9 @@ static const struct field *field_at(size_t at)
 static uint32_t setting_value(const struct setting *s, size_t at)
 {
     uint8_t block[BLOCK_BYTES];
-    uint32_t value = 0;
 
     lay_setting(s, block);
-    for (size_t i = field_at(at)->width; i > 0; i--)
-        value = value << 8 | block[at + i - 1];
-    return value;
+    return get_field(block, field_at(at));
 }
 
 /* A setting field put to a value as far as its bytes hold it. */

@@ -110,12 +110,13 @@ struct answer {
     uint8_t latched[SYSTEMS];
 };
 
-/* Blocks. The offset is set with FIELD_WRONG, else it becomes 0. */
+/* Blocks. With FIELD_WRONG the offset becomes the lowest of a field outside its
+ * rule (document 02, card 3), else 0. */
 enum refusal read_setting(const uint8_t *bytes, size_t length,
                           struct setting *setting, size_t *offset);
 enum refusal setting_refusal(const struct setting *setting, size_t *offset);
 enum refusal write_setting(const struct setting *setting, uint8_t *buffer,
-                           size_t length);
+                           size_t length, size_t *offset);
 enum refusal read_samples(const uint8_t *bytes, size_t length,
                           int16_t numbers[BLOCK_NUMBERS], size_t *count);
 enum refusal write_samples(uint8_t *record, size_t record_length, size_t block,

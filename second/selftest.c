@@ -349,6 +349,106 @@ static void check_setting_block(void)
     }
 }
 
+/* Faults of the plain setting, which has two ends: bytes put to other values, and
+ * the refusal and offset of the block and of its values by themselves. */
+struct faults {
+    struct {
+        uint16_t at;
+        uint8_t byte;
+    } fault[3];
+    int block, block_offset, values, values_offset;
+};
+
+static const struct faults FAULTS[] = {
+    /* A spare byte is a field by itself. */
+    {{{7, 1}}, 5, 7, 0, 0},
+    {{{7, 1}, {11, 1}}, 5, 7, 5, 8},
+    {{{22, 1}, {23, 1}}, 5, 22, 0, 0},
+    {{{23, 255}, {26, 1}}, 5, 23, 5, 24},
+    {{{59, 1}, {61, 255}}, 5, 59, 5, 60},
+    {{{509, 1}}, 5, 509, 0, 0},
+    {{{509, 1}, {74, 128}}, 5, 74, 0, 0},
+    /* A number is one field, whichever of its bytes makes it wrong. */
+    {{{11, 1}, {15, 1}}, 5, 8, 5, 8},
+    {{{15, 1}, {19, 1}}, 5, 12, 5, 12},
+    {{{19, 1}, {20, 1}}, 5, 16, 5, 16},
+    {{{61, 255}, {63, 255}}, 5, 60, 5, 60},
+    {{{73, 1}, {74, 1}}, 5, 72, 5, 72},
+    {{{72, 9}, {74, 1}}, 5, 72, 5, 72},
+    /* The group of end 0 is 0, that of end 1 up to 11. */
+    {{{20, 1}, {22, 1}}, 5, 20, 5, 20},
+    {{{20, 11}, {21, 2}, {23, 1}}, 5, 20, 5, 20},
+    {{{21, 2}, {22, 1}, {23, 1}}, 5, 21, 5, 21},
+    {{{32, 11}, {33, 2}}, 5, 33, 5, 33},
+    {{{32, 12}, {33, 2}}, 5, 32, 5, 32},
+    /* A number of an unused end is one field, all its bytes together. */
+    {{{39, 1}, {40, 1}}, 5, 36, 5, 36},
+    {{{43, 1}}, 5, 40, 5, 40},
+    {{{43, 128}, {42, 1}, {44, 1}}, 5, 40, 5, 40},
+    {{{44, 1}, {45, 1}}, 5, 44, 5, 44},
+    {{{45, 1}, {46, 1}}, 5, 45, 5, 45},
+    {{{46, 1}, {51, 1}}, 5, 46, 5, 48},
+    {{{47, 1}, {55, 1}}, 5, 47, 5, 52},
+    {{{58, 1}, {57, 1}}, 5, 57, 5, 57},
+    /* An end that is in use without having been set. */
+    {{{4, 3}}, 5, 36, 5, 36},
+    {{{4, 3}, {35, 1}}, 5, 35, 5, 36},
+    {{{4, 3}, {36, 1}, {51, 1}}, 5, 40, 5, 40},
+    /* From one end of the block to the other. */
+    {{{74, 1}, {5, 8}}, 5, 5, 5, 5},
+    {{{509, 1}, {72, 81}, {6, 25}}, 5, 6, 5, 6},
+    /* 4 comes before it, 6 and 7 come after it. */
+    {{{4, 5}, {5, 8}}, 4, 0, 4, 0},
+    {{{4, 1}, {7, 1}, {6, 25}}, 4, 0, 4, 0},
+    {{{17, 125}}, 6, 0, 6, 0},
+    {{{17, 125}, {509, 1}}, 5, 509, 6, 0},
+    {{{17, 1}}, 7, 0, 7, 0},
+    {{{17, 1}, {70, 9}, {58, 1}}, 5, 58, 5, 70}};
+
+/* Start and writer on values; refused, they leave relay and buffer as before. */
+static void meet_values(const struct setting *s, int refusal, int64_t at)
+{
+    struct relay relay, no_relay;
+    uint8_t buffer[600], filled[600];
+    size_t offset;
+
+    memset(&relay, 0xA5, sizeof relay);
+    memset(&no_relay, 0xA5, sizeof no_relay);
+    memset(buffer, 0xA5, sizeof buffer);
+    memset(filled, 0xA5, sizeof filled);
+    meet("start", relay_start(s, &relay, &offset), refusal);
+    meet("start's offset", (int64_t)offset, at);
+    meet("started", memcmp(&relay, &no_relay, sizeof relay) != 0, refusal == 0);
+    meet("short", write_setting(s, buffer, 511, &offset), refusal ? refusal : 13);
+    meet("short's offset", (int64_t)offset, at);
+    meet("untouched", memcmp(buffer, filled, sizeof buffer), 0);
+    meet("write", write_setting(s, buffer, sizeof buffer, &offset), refusal);
+    meet("write's offset", (int64_t)offset, at);
+    meet("written", memcmp(buffer, filled, 512) != 0, refusal == 0);
+    meet("behind", memcmp(buffer + 512, filled + 512, 88), 0);
+}
+
+/* Refusal 5 gives the lowest offset of a field outside its rule (document 02,
+ * card 3). */
+static void check_first_fault(void)
+{
+    for (size_t i = 0; i < sizeof FAULTS / sizeof FAULTS[0]; i++) {
+        const struct faults *f = &FAULTS[i];
+        uint8_t block[BLOCK_BYTES];
+        struct setting s;
+        size_t offset;
+
+        lay_setting(&plain_setting, block);
+        for (size_t k = 0; k < 3 && f->fault[k].at != 0; k++)
+            block[f->fault[k].at] = f->fault[k].byte;
+        seal_block(block);
+        meet("faults", read_setting(block, BLOCK_BYTES, &s, &offset), f->block);
+        meet("lowest offset", (int64_t)offset, f->block_offset);
+        take_setting(block, &s);
+        meet_values(&s, f->values, f->values_offset);
+    }
+}
+
 /* What the setting writer writes reads back; only its 512 bytes change. */
 static void check_setting_writer(void)
 {
@@ -361,15 +461,15 @@ static void check_setting_writer(void)
 
         memset(block, 0xA5, sizeof block);
         draw_setting(&d, (uint8_t)(2 + i % 3), &s);
-        meet("short", write_setting(&s, block, BLOCK_BYTES - 1), 13);
+        meet("short", write_setting(&s, block, BLOCK_BYTES - 1, &offset), 13);
         meet("untouched", block[0] == 0xA5 && block[511] == 0xA5, 1);
-        meet("write", write_setting(&s, block, sizeof block), 0);
+        meet("write", write_setting(&s, block, sizeof block, &offset), 0);
         meet("behind", block[512], 0xA5);
         meet("read", read_setting(block, BLOCK_BYTES, &back, &offset), 0);
-        meet("again", write_setting(&back, again, BLOCK_BYTES), 0);
+        meet("again", write_setting(&back, again, BLOCK_BYTES, &offset), 0);
         meet("same bytes", memcmp(block, again, BLOCK_BYTES), 0);
         s.ends = 5;
-        meet("before short", write_setting(&s, block, 0), 4);
+        meet("before short", write_setting(&s, block, 0, &offset), 4);
     }
 }
 
@@ -476,7 +576,7 @@ static void check_bench(void)
     meet("bench length", (int64_t)bench_lines(&relay, list, text, sizeof text),
          sizeof BENCH - 1);
     meet("bench text", strcmp(text, BENCH), 0);
-    meet("write", write_setting(&s, setting, sizeof setting), 0);
+    meet("write", write_setting(&s, setting, sizeof setting, &offset), 0);
     meet("write", write_samples(samples, sizeof samples, 0, list, 144), 0);
     meet("measured", measure_block(setting, 512, samples, 512), 101);
     meet("setting first", measure_block(setting, 511, samples, 511), 1);
@@ -1259,6 +1359,7 @@ int main(void)
     check_refusals();
     check_records();
     check_setting_block();
+    check_first_fault();
     check_setting_writer();
     check_sample_block();
     check_sample_reader();

@@ -281,8 +281,9 @@ static void build(struct draw *d, size_t i, struct vector *v)
 static int put_input(const struct vector *v)
 {
     uint8_t block[2 * BLOCK_BYTES];
+    size_t offset;
 
-    if (write_setting(&v->setting, block, BLOCK_BYTES) != ACCEPTED)
+    if (write_setting(&v->setting, block, BLOCK_BYTES, &offset) != ACCEPTED)
         return 0;
     if (write_samples(block, sizeof block, 1, v->list, WINDOW_NUMBERS) != ACCEPTED)
         return 0;
@@ -304,12 +305,13 @@ static void put_setting(const struct vector *v)
 {
     uint8_t block[BLOCK_BYTES], longer[BLOCK_BYTES + 3], shorter[BLOCK_BYTES - 1];
     unsigned done, declined;
+    size_t offset;
 
     lay_setting(&v->setting, block);
     memset(longer, FILLED, sizeof longer);
     memset(shorter, FILLED, sizeof shorter);
-    done = write_setting(&v->setting, longer, sizeof longer);
-    declined = write_setting(&v->setting, shorter, sizeof shorter);
+    done = write_setting(&v->setting, longer, sizeof longer, &offset);
+    declined = write_setting(&v->setting, shorter, sizeof shorter, &offset);
     printf("w %u %d %d %u\n", done, memcmp(longer, block, BLOCK_BYTES) == 0,
            kept(longer + BLOCK_BYTES, 3), declined);
 }

@@ -1,3 +1,4 @@
 pub mod Layout
 pub mod Calls
 pub mod RoundTrip
+pub mod Worked

@@ -1,0 +1,46 @@
+-- Blocks with faults in them, and what the reader tells of each (document 02, card 3), worked out by hand.
+use mathlib.Core.Path.{_≡_, refl}
+use mathlib.Core.List.{List, [], _∷_, _++_, map}
+use mathlib.Core.Option.{some}
+use Prim.Native.Nat.{ℕ}
+use lib.ListN.{set}
+use Rattle.refusal.specs.Refusals.{Told, alone, byOutcome, firstRefusal}
+use Rattle.setting.specs.Values.{fields, valueRows}
+use Rattle.setting.specs.Worked.{factory}
+use Rattle.setting_block.specs.Layout.{settingAt, fewSpares, spare, header}
+
+-- bytes put at their offsets
+abbrev pub changed : List ℕ → List (ℕ × ℕ) → List ℕ
+changed s [] = s
+changed s (x ∷ xs) = changed (set s (x .0) (x .1)) xs
+
+-- what 4 to 7 tell of the factory setting, of two ends, with bytes of its block before 74 changed
+abbrev pub told : List (ℕ × ℕ) → Told
+told xs =
+    let s = changed (header factory) xs in
+    byOutcome (firstRefusal (valueRows (fields (settingAt s) ++ map (spare s) fewSpares) (settingAt s))) (λ t. t) (λ done. alone 0)
+
+abbrev pub fieldAt : ℕ → Told
+fieldAt x = record { number = 5; offset = some x }
+
+abbrev pub faults : List (Told × Told)
+faults =
+    -- a zero byte and S after it; the group of end 0 and a zero byte after it; two zero bytes
+    (told ((7, 1) ∷ (11, 1) ∷ []), fieldAt 7)
+    ∷ (told ((22, 1) ∷ (20, 1) ∷ []), fieldAt 20)
+    ∷ (told ((23, 1) ∷ (22, 1) ∷ []), fieldAt 22)
+    -- numbers of an unused end, by any of their bytes
+    ∷ (told ((43, 1) ∷ []), fieldAt 40)
+    ∷ (told ((46, 1) ∷ (38, 1) ∷ []), fieldAt 36)
+    ∷ (told ((57, 1) ∷ (58, 1) ∷ []), fieldAt 57)
+    -- a zero byte and the second byte of P after it; the second byte of the last field
+    ∷ (told ((59, 1) ∷ (61, 255) ∷ []), fieldAt 59)
+    ∷ (told ((73, 1) ∷ []), fieldAt 72)
+    -- the last field and the first; E is refusal 4's
+    ∷ (told ((72, 81) ∷ (5, 8) ∷ []), fieldAt 5)
+    ∷ (told ((4, 5) ∷ (5, 8) ∷ []), alone 4)
+    ∷ []
+
+pub faults-met : map (λ r. r .0) faults ≡ map (λ r. r .1) faults
+unfolding factory settingAt header valueRows
+faults-met = refl
