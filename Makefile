@@ -96,7 +96,8 @@ bench: $(BENCH) build/bench
 
 # Records of calls against the second program: each answer to a sample, a reset, a read or a write of the register page, with counters, latches, flags and
 # refusals; in some, parts of the record are changed between calls, within their rules and past them, so that refusal 12 is met; some come once more with
-# every sample negated.
+# every sample negated. Setting blocks with up to six faults, every pair of neighbours in block order among them, and such values to start and writer: each
+# refusal with its offset.
 calls: $(CALLS) build/calls
 	build/calls expect > build/calls.out
 	build/calls input | $(CALLS) | cmp - build/calls.out

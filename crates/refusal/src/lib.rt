@@ -13,7 +13,7 @@ pub enum Refusal {
     Mark,
     // A number of ends that is not 2 to 4.
     Ends,
-    // A setting field or zero byte outside its rule: the offset of its first byte.
+    // Setting fields or zero bytes outside their rule: the lowest offset of one.
     Field(u16),
     // A factor above 16.
     FactorHigh,

@@ -49,7 +49,7 @@ right f = cond (inUse f) (between (leastOf f) (mostOf f) (valueOf f)) (eqb (valu
 abbrev pub headFields : Setting → List Field
 headFields v = (5, true, 0, 7, v .flags) ∷ (6, true, 1, 24, v .confirm) ∷ (8, true, 1, 50000, v .power) ∷ []
 
--- 12 + 12z: V, 1 to 15,000; I, 1 to 50,000; group, 0 to 11, and 0 at end 0; filter, 0 or 1; ends from E on are all zero
+-- 12 + 12z: V, 1 to 15,000; I, 1 to 50,000; group, 0 to 11, and 0 at end 0; filter, 0 or 1; ends from E on are all zero, each number one field (02, card 3)
 abbrev pub endFields : Setting → ℕ → List Field
 endFields v z =
     (12 + 12 * z, ltb z (v .ends), 1, 15000, endOf v z .voltage)

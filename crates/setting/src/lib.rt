@@ -44,7 +44,7 @@ pub struct Thresholds {
 // not in use is zero.
 pub struct Field(pub u16, pub bool, pub u32, pub u32, pub u32);
 
-// The offset of a field outside its rule, if there is one.
+// The lowest offset of a field outside its rule, if there is one.
 pub enum Fault {
     Nowhere,
     At(u16),

@@ -55,7 +55,7 @@ fewSpares = 7 ∷ (endSpares 0 ++ (endSpares 1 ++ (endSpares 2 ++ endSpares 3)))
 abbrev pub spareOffsets : List ℕ
 spareOffsets = fewSpares ++ upTo 436 (λ k. 74 + k)
 
--- each zero byte is a field by itself, which is never in use
+-- each zero byte is a field by itself (02, card 3), which is never in use
 abbrev pub spare : List ℕ → ℕ → Field
 spare s at = (at, false, 0, 0, getD s at 0)
 
