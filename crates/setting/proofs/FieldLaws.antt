@@ -9,7 +9,7 @@ use native.Mathlib.Omega.{arith}
 use lib.Dec.{T, leb, leb→le}
 use lib.ListN.{length, getD, drop, drop-of-length-le}
 use Rattle.lists.proofs.Places.{drop-next}
-use Rattle.lists.proofs.TestLaws.{split, pair, each-++}
+use Rattle.lists.proofs.TestLaws.{split}
 use Rattle.setting.specs.declared.Field.{Field}
 use Rattle.setting.specs.Values.{offsetOf, right, allRight, lower, wrongAt, lowest}
 

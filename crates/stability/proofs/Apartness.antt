@@ -1,10 +1,9 @@
 -- The register page stands apart (02, card 2). A record with other events answers a sample call and a reset as the record does, and what is left differs
 -- in the events again; a read, and a write that does not reset, changes the events at most.
 use mathlib.Core.Path.{_≡_, refl, sym, ap, _∙_, subst}
-use mathlib.Core.Bool.{Bool, true, false, _||_, cond, true≢false}
+use mathlib.Core.Bool.{Bool, true, false, cond, true≢false}
 use mathlib.Core.List.{List, [], _∷_}
 use Prim.Native.Nat.{ℕ}
-use lib.Dec.{eqb}
 use lib.IntN.{ℤ}
 use Rattle.refusal.specs.Refusals.{Outcome, gives, declines, byOutcome}
 use Rattle.page.specs.declared.Events.{Events}

@@ -2,11 +2,11 @@
 -- matched numbers of the set are negated (Negated.antt of matching), and what is measured of the window is the same (that of measuring). So a call keeps
 -- the record turned, and answers alike; a fresh record is turned to itself.
 use mathlib.Core.Path.{_≡_, refl, ap, sym, subst, _∙_}
-use mathlib.Core.Bool.{Bool, true, false, _&&_, _||_, cond}
+use mathlib.Core.Bool.{Bool, true, false, _&&_, cond}
 use mathlib.Core.List.{List, [], _∷_, _++_, map, map-append}
 use Prim.Native.Nat.{ℕ, zero, suc, _+_, _*_}
 use native.Mathlib.Omega.{arith}
-use lib.Dec.{leb, ltb, eqb}
+use lib.Dec.{leb, ltb}
 use lib.IntN.{ℤ, pos, negsuc, negℤ, natAbs}
 use lib.ListN.{take, drop, length-map}
 use Rattle.integer.specs.Within.{eqZ}
