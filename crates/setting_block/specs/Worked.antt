@@ -1,4 +1,4 @@
--- Blocks with faults in them, and what the reader tells of each (document 02, card 3), worked out by hand.
+-- Blocks with faults before byte 74, and what refusals 4 and 5 tell of each (document 02, card 3), worked out by hand.
 use mathlib.Core.Path.{_≡_, refl}
 use mathlib.Core.List.{List, [], _∷_, _++_, map}
 use mathlib.Core.Option.{some}
