@@ -4,6 +4,7 @@ use Prim.Native.Nat.{ℕ, _+_, _*_, _-_, _/_, _%_}
 use lib.Dec.{leb, ltb, eqb}
 use Rattle.setting.specs.declared.Setting.{Setting}
 use Rattle.setting.specs.declared.Thresholds.{Thresholds}
+use Rattle.characteristic.specs.declared.Held.{Held}
 
 -- flags (01, "The setting block"): bit 0 second-harmonic blocking, bit 1 fifth, bit 2 common blocking
 abbrev pub secondOn : Setting → Bool
@@ -34,6 +35,14 @@ starts v D R = firstSection (v .thresholds) D R || (secondSection (v .thresholds
 -- It has harmonics when the second is on and 100·H2 > its percent times D, or likewise the fifth.
 unfoldable pub hasHarmonics : Setting → (D H2 H5 : ℕ) → Bool
 hasHarmonics v D H2 H5 = (secondOn v && ltb (v .thresholds .second * D) (100 * H2)) || (fifthOn v && ltb (v .thresholds .fifth * D) (100 * H5))
+
+-- Under common blocking it holds back others when it has harmonics.
+unfoldable pub holdsBack : Setting → (D H2 H5 : ℕ) → Bool
+holdsBack v D H2 H5 = hasHarmonics v D H2 H5
+
+-- what its harmonics hold back: itself, and others
+unfoldable pub heldBy : Setting → (D H2 H5 : ℕ) → Held
+heldBy v D H2 H5 = record { own = hasHarmonics v D H2 H5; others = holdsBack v D H2 H5 }
 
 -- It counts when it starts and is not blocked, or when D > H.
 abbrev pub counts : Setting → (D : ℕ) (start blocked : Bool) → Bool

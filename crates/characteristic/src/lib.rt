@@ -4,7 +4,7 @@ ghost use mathlib.Core.Path.{_≡_};
 ghost use mathlib.Core.Bool.{_&&_, _||_};
 ghost use Prim.Native.Nat.{_+_, _*_, _≤_};
 ghost use lib.Dec.{ltb};
-ghost use Rattle.characteristic.specs.Characteristic.{starts as startsOf, hasHarmonics, counts as countsOf};
+ghost use Rattle.characteristic.specs.Characteristic.{starts as startsOf, hasHarmonics, heldBy, counts as countsOf};
 ghost use Rattle.characteristic.specs.Products.{Wide, Product};
 ghost use Rattle.characteristic.specs.Bound.{QuietBound};
 use setting::Setting;
@@ -15,6 +15,12 @@ pub struct Currents {
     pub r: u32,
     pub h2: u32,
     pub h5: u32,
+}
+
+// What the harmonics of a system hold back: the system itself; others, under common blocking.
+pub struct Held {
+    pub own: bool,
+    pub others: bool,
 }
 
 fn wide(x: u16) -> u32
@@ -71,12 +77,23 @@ fn or(a: bool, b: bool) -> bool
 }
 
 // Whether a system has harmonics.
-pub fn harmonics(v: Setting, c: Currents) -> bool
+fn harmonics(v: Setting, c: Currents) -> bool
     ensures { λ b. ⌜ b ≡ hasHarmonics v (c .d) (c .h2) (c .h5) ⌝ }
 {
     let second = harmonic(v.flags % 2 == 1, v.thresholds.second, c.d, c.h2);
     let fifth = harmonic(v.flags / 2 % 2 == 1, v.thresholds.fifth, c.d, c.h5);
     or(second, fifth)
+}
+
+// What the harmonics of a system hold back.
+pub fn blocking(v: Setting, c: Currents) -> Held
+    ensures { λ b. ⌜ b ≡ heldBy v (c .d) (c .h2) (c .h5) ⌝ }
+{
+    let own = harmonics(v, c);
+    Held {
+        own: own,
+        others: own,
+    }
 }
 
 // Whether a system counts: it starts and is not blocked, or D exceeds the high-set.

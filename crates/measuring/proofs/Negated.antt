@@ -12,7 +12,7 @@ use Rattle.matching.specs.Sets.{System, sysA, sysB, sysC, index}
 use Rattle.amplitude.specs.Amplitude.{amplitude}
 use Rattle.amplitude.proofs.Negated.{amplitude-negated}
 use Rattle.measuring.specs.Window.{at, series, sums, difference}
-use Rattle.measuring.specs.Measuring.{sumℕ, twiceRestraint, harmonics, blocked, readingOf}
+use Rattle.measuring.specs.Measuring.{sumℕ, twiceRestraint, harmonics, holding, blocked, readingOf}
 
 module _ (win : List ℤ) where
   pub series-negated : (z : ℕ) (l : System) (k : ℕ) → series (map negℤ win) z l k ≡ negℤ (series win z l k)
@@ -43,7 +43,11 @@ module _ (v : Setting) (win : List ℤ) where
   unfolding harmonics
   harmonics-same l = rw (of-sums 1 l, of-sums 2 l, of-sums 5 l)
 
+  holding-same : (l : System) → holding v (map negℤ win) l ≡ holding v win l
+  unfolding holding
+  holding-same l = rw (of-sums 1 l, of-sums 2 l, of-sums 5 l)
+
   pub reading-same : (l : System) → readingOf v (map negℤ win) l ≡ readingOf v win l
   unfolding readingOf blocked
   reading-same l =
-      rw (of-sums 1 l, of-sums 2 l, of-sums 5 l, restraint-same l, harmonics-same l, harmonics-same sysA, harmonics-same sysB, harmonics-same sysC)
+      rw (of-sums 1 l, of-sums 2 l, of-sums 5 l, restraint-same l, harmonics-same l, holding-same sysA, holding-same sysB, holding-same sysC)

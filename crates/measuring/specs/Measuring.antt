@@ -8,7 +8,7 @@ use Rattle.setting.specs.declared.Setting.{Setting}
 use Rattle.matching.specs.Sets.{System, sysA, sysB, sysC}
 use Rattle.amplitude.specs.Amplitude.{amplitude}
 use Rattle.characteristic.specs.declared.Currents.{Currents}
-use Rattle.characteristic.specs.Characteristic.{starts, hasHarmonics, commonOn}
+use Rattle.characteristic.specs.Characteristic.{starts, hasHarmonics, holdsBack, commonOn}
 use Rattle.measuring.specs.declared.Reading.{Reading}
 use Rattle.measuring.specs.declared.Readings.{Readings}
 use Rattle.measuring.specs.Window.{series, sums, difference}
@@ -38,9 +38,12 @@ start v win l = starts v (differential v win l) (twiceRestraint (v .ends) win l)
 unfoldable pub harmonics : Setting → List ℤ → System → Bool
 harmonics v win l = hasHarmonics v (differential v win l) (second v win l) (fifth v win l)
 
--- It is blocked when it has harmonics, or, with common blocking, when any system has.
+unfoldable pub holding : Setting → List ℤ → System → Bool
+holding v win l = holdsBack v (differential v win l) (second v win l) (fifth v win l)
+
+-- It is blocked when it has harmonics, or, with common blocking, when any system holds back others; one that does so has harmonics itself.
 unfoldable pub blocked : Setting → List ℤ → System → Bool
-blocked v win l = harmonics v win l || (commonOn v && (harmonics v win sysA || (harmonics v win sysB || harmonics v win sysC)))
+blocked v win l = harmonics v win l || (commonOn v && (holding v win sysA || (holding v win sysB || holding v win sysC)))
 
 -- the four currents of a system, which take no more of a setting than its number of ends
 unfoldable pub currentsOf : (ends : ℕ) → List ℤ → System → Currents

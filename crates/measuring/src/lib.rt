@@ -7,12 +7,13 @@ ghost use lib.IntN.{pos};
 ghost use lib.ListN.{getD};
 ghost use Rattle.lists.specs.Lists.{upTo};
 ghost use Rattle.matching.specs.Sets.{system};
-ghost use Rattle.characteristic.specs.Characteristic.{starts as startsOf};
+ghost use Rattle.characteristic.specs.Characteristic.{starts as startsOf, commonOn};
 ghost use Rattle.measuring.specs.Window.{series as seriesOf, sums as sumsOf, difference as differenceOf};
 ghost use Rattle.measuring.specs.Measuring.{twiceRestraint, start, currentsOf, readingsOf};
 ghost use Rattle.measuring.specs.WindowInput.{PlaceInput, SumInput, Measurable, SystemInput};
 use amplitude::Harmonic;
 use characteristic::Currents;
+use characteristic::Held;
 use setting::Setting;
 
 // What is measured of a system: its currents, start, blocked.
@@ -144,18 +145,18 @@ fn or(a: bool, b: bool) -> bool
     if a { true } else { b }
 }
 
-// Whether all systems are blocked: with common blocking on, when any has harmonics.
-fn common(on: bool, a: bool, b: bool, c: bool) -> bool
-    ensures { λ r. ⌜ r ≡ (on && (a || (b || c))) ⌝ }
+// Whether all systems are blocked: with common blocking on, when any holds back others.
+fn common(v: Setting, a: Held, b: Held, c: Held) -> bool
+    ensures { λ r. ⌜ r ≡ (commonOn v && (a .others || (b .others || c .others))) ⌝ }
 {
-    if on {
-        if a {
+    if v.flags / 4 % 2 == 1 {
+        if a.others {
             return true;
         }
-        if b {
+        if b.others {
             return true;
         }
-        return c;
+        return c.others;
     }
     false
 }
@@ -184,13 +185,13 @@ pub fn measure(v: Setting, win: &[i32]) -> Readings
     let a = system_currents(ends, win, 0);
     let b = system_currents(ends, win, 1);
     let c = system_currents(ends, win, 2);
-    let in_a = characteristic::harmonics(v, a);
-    let in_b = characteristic::harmonics(v, b);
-    let in_c = characteristic::harmonics(v, c);
-    let any = common(v.flags / 4 % 2 == 1, in_a, in_b, in_c);
+    let by_a = characteristic::blocking(v, a);
+    let by_b = characteristic::blocking(v, b);
+    let by_c = characteristic::blocking(v, c);
+    let any = common(v, by_a, by_b, by_c);
     Readings {
-        a: system_reading(v, a, in_a, any),
-        b: system_reading(v, b, in_b, any),
-        c: system_reading(v, c, in_c, any),
+        a: system_reading(v, a, by_a.own, any),
+        b: system_reading(v, b, by_b.own, any),
+        c: system_reading(v, c, by_c.own, any),
     }
 }

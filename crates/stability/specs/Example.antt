@@ -18,8 +18,8 @@ use Rattle.integer.specs.Within.{eqZ}
 use Rattle.matching.specs.Matching.{operation, operated, matched}
 use Rattle.matching.specs.Sets.{System, sysA, sysB, sysC, seen, matchedAt, numbers}
 use Rattle.amplitude.specs.Amplitude.{t, weightedSum, cycle, amplitude}
-use Rattle.characteristic.specs.Characteristic.{starts, hasHarmonics}
-use Rattle.measuring.specs.Measuring.{twiceRestraint, harmonics, blocked, readingOf, readingsOf}
+use Rattle.characteristic.specs.Characteristic.{starts, hasHarmonics, holdsBack}
+use Rattle.measuring.specs.Measuring.{twiceRestraint, harmonics, holding, blocked, readingOf, readingsOf}
 use Rattle.state.specs.State.{elementOf, elementAfter, windowWith}
 use Rattle.relay.specs.Record.{fresh, admissible}
 use Rattle.relay.specs.Calls.{setRows, sampleRows, relayNow}
@@ -35,7 +35,7 @@ latchAfter l = elementOf (run (fresh plain) fault .trip) l .latch
 
 pub fault-trips : startable plain ∷ latchAfter sysA ∷ latchAfter sysB ∷ latchAfter sysC ∷ [] ≡ true ∷ true ∷ false ∷ false ∷ []
 unfolding plain fault latchAfter factor factorHigh factorsLow valueRows nearestAway nearest floor rootBy sum upTo operation operated matched seen matchedAt numbers
-    t weightedSum cycle amplitude twiceRestraint harmonics blocked starts hasHarmonics elementAfter fresh admissible windowWith setRows sampleRows relayNow eqZ raised bitsOf maskOf readingOf readingsOf
+    t weightedSum cycle amplitude twiceRestraint harmonics holding blocked starts hasHarmonics holdsBack elementAfter fresh admissible windowWith setRows sampleRows relayNow eqZ raised bitsOf maskOf readingOf readingsOf
 fault-trips = refl
 
 -- not each of these sets is that of a healthy bank
