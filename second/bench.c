@@ -295,6 +295,27 @@ static void largest(struct stream *x, int wanted)
     }
 }
 
+/* An unloaded phase B of end 0, which under common blocking doesn't hold back a
+ * fault on phase A from set 22 on (02, card 4). */
+static void unloaded(struct stream *x, int wanted)
+{
+    const struct wave fault = {.cosine = {{3000}}};
+    static int16_t list[MOST_SETS * SET_NUMBERS];
+    struct setting s = plain_setting;
+
+    (void)wanted;
+    s.flags = BLOCK_ON_SECOND | COMMON_BLOCKING;
+    s.confirm = 3;
+    for (size_t k = 0; k < MOST_SETS; k++) {
+        if (k >= BLOCK_SETS)
+            wave_set(&fault, &s, k - BLOCK_SETS, list + k * SET_NUMBERS);
+        list[k * SET_NUMBERS + 1] = unloaded_sample(k);
+    }
+    lay_setting(&s, next_block(x));
+    add_sets(x, list, BLOCK_SETS);
+    add_sets(x, list + BLOCK_NUMBERS, BLOCK_SETS);
+}
+
 /* Nothing at all, or a setting alone. */
 static void nothing(struct stream *x, int wanted)
 {
@@ -432,6 +453,7 @@ static const struct {
     {"no-sets", no_sets, 0},
     {"full-blocks", full_blocks, 0},
     {"largest", largest, 0},
+    {"unloaded", unloaded, 0},
 };
 #define CASES (sizeof CASE / sizeof CASE[0])
 

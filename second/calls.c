@@ -30,10 +30,12 @@
 #define PAIRED 12           /* records of values with neighbours wrong */
 #define UNSOUND 36          /* records of values with any wrong */
 #define UNSOUND_CASES 12    /* times that values are made wrong in such a record */
+#define COMMON 24           /* records of common blocking, with a draw of their own */
 #define LIMITS (RECORDS + ROUNDS)
 #define FAULTY_FROM (LIMITS + 1 + WATCHED)
 #define VALUES_FROM (FAULTY_FROM + FAULTY)
-#define ALL_RECORDS (VALUES_FROM + PAIRED + UNSOUND)
+#define COMMON_FROM (VALUES_FROM + PAIRED + UNSOUND)
+#define ALL_RECORDS (COMMON_FROM + COMMON)
 #define MOST_BLOCKS 250
 #define MOST_TEXT 65536     /* that a record's answers take */
 #define TURNED 11           /* one of so many records of calls comes turned too */
@@ -52,7 +54,7 @@
 #define SETTING_KIND 0x54
 #define VIEW_KIND 0x56
 
-enum scene_kind { HEALTHY, FAULT, INRUSH, BURSTS, NOISE };
+enum scene_kind { HEALTHY, FAULT, INRUSH, BURSTS, NOISE, LONE };
 
 /* One record: its blocks, whether all its sets are a healthy bank's, and
  * whether the relay record came through each refusal 12 and each begin block as it
@@ -65,12 +67,15 @@ struct record {
 
 /* What the calls of a record come to: the lines, the relay after them, sets
  * that are measured, that start and that show a latch, page and view blocks, and
- * how far byte 5 was seen: 1 at a zero, 2 at a one after it. */
+ * how far byte 5 was seen: 1 at a zero, 2 at a one after it. And sets under common
+ * blocking where document 01 holds back more systems than document 02, card 4, where
+ * one of these trips, where one with harmonics has D at P, and where all are
+ * blocked. */
 struct outcome {
     char text[MOST_TEXT];
     size_t length;
     struct relay relay;
-    unsigned measured, started, latched, paged, seen;
+    unsigned measured, started, latched, paged, seen, common[4];
 };
 
 /* Calls by what is asked, and what may be wrong with a record. */
@@ -85,11 +90,12 @@ enum { BEYOND = 1, FIXED = 2, INADMISSIBLE = 4, PAGE_FAULTS = 8 };
 
 /* What a run has: records, those of healthy banks, answers to sample and reset
  * calls, refusals 12 by the call, changes by their part and by the fault that
- * they make; and of the turned records how many there are, and their sets
- * measured, that start and that show a latch. */
+ * they make; of the turned records how many there are, and their sets measured,
+ * that start and that show a latch; and the counts of the records of common
+ * blocking. */
 static struct {
     unsigned records, healthy, answers, declined[ASKED];
-    unsigned changes[PART_KINDS][FAULTS], turned[4];
+    unsigned changes[PART_KINDS][FAULTS], turned[4], common[4];
 } told;
 
 /* What a run has of the page: records with page or view blocks, those of them
@@ -147,15 +153,16 @@ static void say(const char *format, ...)
     }
 }
 
-/* What goes on at the bank: a fault now on, now off, for some sets. */
+/* What goes on at the bank: a fault now on, now off, for some sets; of a lone
+ * fault also its phase, and how far the current of the next one swings. */
 struct scene {
     struct setting setting;
     enum scene_kind kind;
     struct wave fault;
     struct bank bank;
-    size_t time;
+    size_t time, phase;
     int on;
-    int64_t left;
+    int64_t left, swing;
 };
 
 /* The next block of a record, all zero. */
@@ -234,12 +241,45 @@ static void draw_scene(struct draw *d, size_t i, struct scene *scene)
     scene->left = draw_from(d, 1, 15);
 }
 
+/* A current at set k with harmonics of three fifths: its fundamental goes from P
+ * plus the swing down to P less the swing, and up again, in 48 sets. */
+static int16_t swinging_sample(const struct scene *scene, size_t k)
+{
+    int64_t turn = (int64_t)(k % 48), step = turn < 24 ? 12 - turn : turn - 36;
+    int32_t level = (int32_t)(scene->setting.pick_up + scene->swing * step / 12);
+    struct wave wave = {.cosine = {{level}, {3 * level / 5}, {3 * level / 5}}};
+    int16_t list[SET_NUMBERS];
+
+    wave_set(&wave, &scene->setting, k, list);
+    return list[0];
+}
+
+/* A lone fault, now on, now off; the next phase is unloaded, or its current swings
+ * about P; the last is unloaded. */
+static void lone_set(struct draw *d, struct scene *scene, int16_t *list)
+{
+    size_t k = scene->time++, next = (scene->phase + 1) % SYSTEMS;
+
+    if (scene->left-- == 0) {
+        scene->on = !scene->on;
+        scene->left = draw_from(d, 6, 40);
+    }
+    if (scene->on)
+        wave_set(&scene->fault, &scene->setting, k, list);
+    list[next] = scene->swing == 0 ? unloaded_sample(k) : swinging_sample(scene, k);
+    list[(scene->phase + 2) % SYSTEMS] = unloaded_sample(k + 1);
+}
+
 /* The next set of the scene; off, a fault leaves through current or none. */
 static void scene_set(struct draw *d, struct scene *scene, int16_t *list)
 {
     const struct setting *s = &scene->setting;
 
     memset(list, 0, SET_NUMBERS * sizeof list[0]);
+    if (scene->kind == LONE) {
+        lone_set(d, scene, list);
+        return;
+    }
     if (scene->kind == NOISE) {
         for (size_t i = 0; i < 3u * s->ends; i++)
             list[i] = (int16_t)draw_from(d, -SAMPLE_LIMIT, SAMPLE_LIMIT);
@@ -480,6 +520,54 @@ static void build_watched(struct draw *d, size_t i, struct record *r)
     }
 }
 
+/* Scene number i of a lone fault under common blocking (02, card 4): 2, 3 and 4 ends,
+ * each fault phase, second and fifth, and swings, each in turn. All groups are 0
+ * without filter and end 0 has factor 1, so that each phase is a system by itself. */
+static void draw_lone(struct draw *d, size_t i, struct scene *scene)
+{
+    struct setting *s = &scene->setting;
+    uint16_t p = (uint16_t)draw_from(d, 100, 600);
+    const int64_t swing[4] = {0, 12, p / 2, p};
+
+    memset(scene, 0, sizeof *scene);
+    scene->kind = LONE;
+    scene->swing = swing[i % 4];
+    scene->phase = i / 8 % SYSTEMS;
+    scene->left = draw_from(d, 6, 40);
+    draw_setting(d, (uint8_t)(2 + i % 3), s);
+    draw_eighths(d, s);
+    s->end[0].current = 1000;
+    s->confirm = (uint8_t)draw_from(d, 1, 4);
+    s->pick_up = p;
+    s->slope1 = s->slope2 = (uint16_t)draw_from(d, 10, 100);
+    s->fifth = (uint16_t)draw_from(d, 10, 50);
+    s->flags = (uint8_t)(COMMON_BLOCKING + 1 + i / 4 % 3);
+    if (scene->swing == 0)
+        s->flags |= BLOCK_ON_SECOND;
+    for (size_t z = 0; z < s->ends; z++) {
+        s->end[z].group = s->end[z].filter = 0;
+        scene->fault.cosine[0][3 * z + scene->phase] = (int32_t)draw_from(d, 0, 1500);
+        scene->fault.sine[0][3 * z + scene->phase] = (int32_t)draw_from(d, 600, 1500);
+    }
+}
+
+/* A record of a lone fault under common blocking: whole blocks and sets watched one
+ * by one in turn, page calls and resets between. */
+static void build_common(struct draw *d, size_t i, struct record *r)
+{
+    struct scene scene;
+
+    draw_lone(d, i, &scene);
+    lay_setting(&scene.setting, next_block(r));
+    for (int k = 0; k < 6; k++) {
+        add_sets(d, &scene, r, BLOCK_SETS, 0);
+        add_watched(d, &scene, r);
+        maybe_page(d, r);
+        if (k % 2 == 1)
+            add_reset(r);
+    }
+}
+
 /* Changes a sound setting block in a way that may lead to a refusal. */
 static void damage_setting(struct draw *d, int wanted, uint8_t *block)
 {
@@ -601,6 +689,31 @@ static void count_measured(const struct answer *a)
     heard->latched += (unsigned)latched;
 }
 
+/* Counts a measured set under common blocking. A system with harmonics is blocked,
+ * and by document 01 all are then; by card 4 only some may be. A trip is one that
+ * the high-set did not make. */
+static void count_common(const struct relay *before, const struct answer *a)
+{
+    const struct setting *s = &before->setting;
+    int blocked = 0, trip = 0, at = 0, all = 1;
+
+    if (heard == NULL || !(s->flags & COMMON_BLOCKING))
+        return;
+    for (size_t y = 0; y < SYSTEMS; y++) {
+        const struct measured *m = &a->system[y];
+
+        blocked |= m->blocked;
+        all &= m->blocked;
+        at |= m->blocked && m->differential == s->pick_up;
+        trip |= !m->blocked && a->latched[y] && !before->latches[y] &&
+                m->differential <= s->high_set;
+    }
+    heard->common[0] += (unsigned)(blocked && !all);
+    heard->common[1] += (unsigned)(blocked && !all && trip);
+    heard->common[2] += (unsigned)at;
+    heard->common[3] += (unsigned)all;
+}
+
 /* What makes a record inadmissible, by document 01's row for refusal 12 and
  * document 02, card 2. */
 static enum fault record_fault(const struct relay *relay)
@@ -703,8 +816,10 @@ static int sample_call(struct relay *relay, const int16_t *list, size_t n)
         say("refused %d\n", refusal);
         return quiet;
     }
-    if (a.filling == 0)
+    if (a.filling == 0) {
         count_measured(&a);
+        count_common(&before, &a);
+    }
     say_answer(&a);
     return quiet && healthy_answer(&a, relay->setting.ends);
 }
@@ -1527,13 +1642,15 @@ static int turned_alike(const struct outcome *turned, const struct outcome *befo
 /* ---- The run ---- */
 
 /* Record number i: first those of calls alone, each sixth of them on a refused
- * setting; then those with changes, those of sets watched one by one, and those of
- * faulty setting blocks and values. */
+ * setting; then those with changes, those of sets watched one by one, those of
+ * faulty setting blocks and values, and those of common blocking. */
 static void build(struct draw *d, size_t i, struct record *r)
 {
     memset(r, 0, sizeof *r);
     r->kept = 1;
-    if (i >= VALUES_FROM)
+    if (i >= COMMON_FROM)
+        build_common(d, i - COMMON_FROM, r);
+    else if (i >= VALUES_FROM)
         build_values(d, i - VALUES_FROM, r);
     else if (i >= FAULTY_FROM)
         build_faulty(d, i - FAULTY_FROM, r);
@@ -1620,6 +1737,8 @@ static int put(struct draw *d, size_t i, int input)
     build(d, i, &r);
     if (!(input ? put_input(&r) : put_expected(&r, &out)))
         return 0;
+    for (size_t k = 0; !input && i >= COMMON_FROM && k < 4; k++)
+        told.common[k] += out.common[k];
     if (!comes_turned(i))
         return 1;
     turn_record(&r);
@@ -1784,12 +1903,14 @@ static int all_told(void)
     return tell("refused 12", told.declined, ASKED) &
            tell("changes within the rules", within, 5) &
            tell("changes past them", past, 9) & page_calls_told() &
-           page_events_told() & faults_told();
+           page_events_told() & faults_told() &
+           tell("common blocking (01 holds back more; trip there; D at P; all blocked)",
+                told.common, 4);
 }
 
 int main(int argc, char **argv)
 {
-    struct draw d = {0xCA115};
+    struct draw d = {0xCA115}, common = {0xC0330};
     int input = argc == 2 && strcmp(argv[1], "input") == 0;
 
     if (!input && (argc != 2 || strcmp(argv[1], "expect") != 0)) {
@@ -1798,7 +1919,7 @@ int main(int argc, char **argv)
     }
     list_places();
     for (size_t i = 0; i < ALL_RECORDS; i++)
-        if (!put(&d, i, input)) {
+        if (!put(i < COMMON_FROM ? &d : &common, i, input)) {
             fprintf(stderr, "calls: record %zu is not as it must be\n", i);
             return 1;
         }

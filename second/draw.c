@@ -314,22 +314,52 @@ void wave_set(const struct wave *wave, const struct setting *s, size_t k,
     }
 }
 
+/* Measures twelve sets. */
+void measure_list(const struct setting *s, const int16_t list[WINDOW_NUMBERS],
+                  struct measured m[SYSTEMS])
+{
+    int32_t values[WINDOW_NUMBERS];
+
+    for (size_t k = 0; k < WINDOW_SETS; k++)
+        match_set(s, list + 12 * k, values + 12 * k);
+    measure_window(s, values, m);
+}
+
 /* Puts the high-set just at a system's D over twelve sets, or one below. */
 int aim_high_set(struct draw *d, const int16_t list[WINDOW_NUMBERS],
                  struct setting *s)
 {
     struct measured m[SYSTEMS];
-    int32_t values[WINDOW_NUMBERS];
     int64_t h;
 
-    for (size_t k = 0; k < WINDOW_SETS; k++)
-        match_set(s, list + 12 * k, values + 12 * k);
-    measure_window(s, values, m);
+    measure_list(s, list, m);
     h = m[draw_from(d, 0, 2)].differential - draw_from(d, 0, 1);
     if (h < 2500 || h > 30000)
         return 0;
     s->high_set = (uint16_t)h;
     return 1;
+}
+
+/* Puts P where the D of system y over twelve sets lies so much above it. */
+int aim_pick_up(const int16_t list[WINDOW_NUMBERS], size_t y, int64_t above,
+                struct setting *s)
+{
+    struct measured m[SYSTEMS];
+    int64_t p;
+
+    measure_list(s, list, m);
+    p = m[y].differential - above;
+    if (p < 100 || p > 2500)
+        return 0;
+    s->pick_up = (uint16_t)p;
+    return 1;
+}
+
+/* An unloaded phase at set k: 1, 0, 0, -1, 0, 0 and so on. At a factor of 1 it has
+ * D 0 and H2 1. */
+int16_t unloaded_sample(size_t k)
+{
+    return (int16_t)(k % 6 == 0 ? 1 : k % 6 == 3 ? -1 : 0);
 }
 
 /* ---- A healthy bank ---- */

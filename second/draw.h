@@ -44,8 +44,13 @@ void wave_set(const struct wave *wave, const struct setting *s, size_t k,
 int16_t clip_sample(int64_t sample);
 void spoil_set(struct draw *d, const struct setting *s, int16_t list[SET_NUMBERS]);
 void turn_samples(int16_t *list, size_t n);
+void measure_list(const struct setting *s, const int16_t list[WINDOW_NUMBERS],
+                  struct measured m[SYSTEMS]);
 int aim_high_set(struct draw *d, const int16_t list[WINDOW_NUMBERS],
                  struct setting *s);
+int aim_pick_up(const int16_t list[WINDOW_NUMBERS], size_t y, int64_t above,
+                struct setting *s);
+int16_t unloaded_sample(size_t k);
 
 /* Currents of a healthy bank at each set, in thousandths per limb. */
 struct bank {

@@ -1347,6 +1347,330 @@ static void check_page(void)
     check_page_records();
 }
 
+/* ---- Common blocking ---- */
+
+/* Currents of a phase over a cycle. They are on end 0 alone and its factor is 1,
+ * so that matched numbers are samples, R is D, and a system starts when D is above
+ * P. All but the first two are turned about after half a cycle, so that H2 is 0. */
+enum form { NOTHING, UNLOADED, RIPPLE, LOW, CLEAN, HIGH, FORMS };
+
+static const int32_t FORM[FORMS][WINDOW_SETS] = {
+    [NOTHING] = {0},
+    /* The same after half a cycle, so that D and H5 are 0. For h = 2, c is
+     * 4 * 1560 = 6240 over 9360, to the nearest 1, and s 0. One set later or
+     * earlier, c is 4 * 780 = 3120, to the nearest 0, and s 4 * 1351 = 5404, to the
+     * nearest 1: H2 is 1 always. */
+    [UNLOADED] = {1, 0, 0, -1, 0, 0, 1, 0, 0, -1, 0, 0},
+    /* The signs of t[5k]. For h = 5, c is 2 * 1560 + 4 * 1351 + 4 * 780 = 11644 over
+     * 9360, H5 1; for h = 1 it is 2 * 1560 - 4 * 1351 + 4 * 780 = 836, D 0. */
+    [RIPPLE] = {1, -1, 1, 0, -1, 1, -1, 1, -1, 0, 1, -1},
+    /* For h = 1, c is 2 * 1560 * 156 + 4 * 1351 * 135 + 4 * 780 * 78 = 1459620 over
+     * 9360, D 156; for h = 5, with a minus in the middle, 540, H5 0. */
+    [LOW] = {156, 135, 78, 0, -78, -135, -156, -135, -78, 0, 78, 135},
+    /* The constants t. For h = 1, c is the sum of their squares, 2 * 2433600 +
+     * 4 * 1825201 + 4 * 608400 = 14601604 over 9360, D 1560; for h = 5, with a minus
+     * in the middle, -4, H5 0. At other sets c and s are so or 1351 and 780 in size,
+     * and 1351 * 1351 + 780 * 780 = 1560 * 1560 + 1: D is 1560 always. */
+    [CLEAN] = {1560, 1351, 780, 0, -780, -1351, -1560, -1351, -780, 0, 780, 1351},
+    /* Six times these: c and s are six times theirs, D 9360 always. */
+    [HIGH] = {9360, 8106, 4680, 0, -4680, -8106, -9360, -8106, -4680, 0, 4680, 8106}};
+
+/* The sample of a phase at set k. A number a from FORMS on stands for 6a in the
+ * first set of a cycle and zeros: there c is 1560 * 6a over 9360 and s is 0 for each
+ * h, and D, H2, H5 are a. */
+static int16_t form_sample(int form, size_t k)
+{
+    if (form < FORMS)
+        return (int16_t)FORM[form][k % 12];
+    return (int16_t)(k % 12 == 0 ? 6 * form : 0);
+}
+
+/* D, H2 and H5 of the forms: of LOW and RIPPLE and single peaks at the first set of
+ * a cycle, of others at each. */
+static void check_forms(void)
+{
+    static const struct {
+        int form;
+        size_t shifts;
+        int32_t d, second, fifth;
+    } table[] = {{NOTHING, 12, 0, 0, 0},  {UNLOADED, 12, 0, 1, 0},
+                 {RIPPLE, 1, 0, 0, 1},    {LOW, 1, 156, 0, 0},
+                 {CLEAN, 12, 1560, 0, 0}, {HIGH, 12, 9360, 0, 0},
+                 {199, 1, 199, 199, 199}, {200, 1, 200, 200, 200},
+                 {201, 1, 201, 201, 201}};
+
+    for (size_t i = 0; i < sizeof table / sizeof table[0]; i++)
+        for (size_t shift = 0; shift < table[i].shifts; shift++) {
+            int32_t u[WINDOW_SETS];
+
+            for (size_t k = 0; k < WINDOW_SETS; k++)
+                u[k] = form_sample(table[i].form, k + shift);
+            meet("form's D", amplitude(u, 1), table[i].d);
+            meet("form's H2", amplitude(u, 2), table[i].second);
+            meet("form's H5", amplitude(u, 5), table[i].fifth);
+        }
+    for (size_t k = 0; k < 24; k++)
+        meet("unloaded", unloaded_sample(k), form_sample(UNLOADED, k));
+}
+
+/* Phases A, B, C, and which systems start and are blocked. P is 200. */
+struct held {
+    uint8_t flags;
+    int16_t phase[SYSTEMS];
+    uint8_t start[SYSTEMS], blocked[SYSTEMS];
+};
+
+static const struct held HELD[] = {
+    /* A fault beside phases without load; a harmonic that is off doesn't count. */
+    {5, {CLEAN, UNLOADED, NOTHING}, {1, 0, 0}, {0, 1, 0}},
+    {5, {CLEAN, NOTHING, UNLOADED}, {1, 0, 0}, {0, 0, 1}},
+    {7, {CLEAN, UNLOADED, RIPPLE}, {1, 0, 0}, {0, 1, 1}},
+    {6, {CLEAN, RIPPLE, UNLOADED}, {1, 0, 0}, {0, 1, 0}},
+    {5, {CLEAN, RIPPLE, CLEAN}, {1, 0, 1}, {0, 0, 0}},
+    /* One with harmonics, its D one below P, at P, and one above it. */
+    {5, {199, CLEAN, LOW}, {0, 1, 0}, {1, 0, 0}},
+    {5, {200, CLEAN, LOW}, {0, 1, 0}, {1, 0, 0}},
+    {5, {201, CLEAN, LOW}, {1, 1, 0}, {1, 1, 1}},
+    {6, {199, LOW, CLEAN}, {0, 0, 1}, {1, 0, 0}},
+    {6, {200, LOW, CLEAN}, {0, 0, 1}, {1, 0, 0}},
+    {6, {201, LOW, CLEAN}, {1, 0, 1}, {1, 1, 1}},
+    {7, {200, CLEAN, CLEAN}, {0, 1, 1}, {1, 0, 0}},
+    {7, {201, CLEAN, CLEAN}, {1, 1, 1}, {1, 1, 1}},
+    /* D of those held back doesn't matter. */
+    {5, {201, NOTHING, NOTHING}, {1, 0, 0}, {1, 1, 1}},
+    {5, {201, LOW, NOTHING}, {1, 0, 0}, {1, 1, 1}},
+    {6, {200, NOTHING, NOTHING}, {0, 0, 0}, {1, 0, 0}},
+    /* Each for itself without common blocking; none without a harmonic on. */
+    {1, {201, CLEAN, LOW}, {1, 1, 0}, {1, 0, 0}},
+    {2, {201, CLEAN, LOW}, {1, 1, 0}, {1, 0, 0}},
+    {3, {201, CLEAN, UNLOADED}, {1, 1, 0}, {1, 0, 1}},
+    {4, {201, CLEAN, UNLOADED}, {1, 1, 0}, {0, 0, 0}},
+    /* D above P without harmonics. */
+    {5, {CLEAN, CLEAN, LOW}, {1, 1, 0}, {0, 0, 0}},
+    {7, {CLEAN, CLEAN, CLEAN}, {1, 1, 1}, {0, 0, 0}},
+    /* Two or three with harmonics. */
+    {5, {201, 200, CLEAN}, {1, 0, 1}, {1, 1, 1}},
+    {6, {200, 201, CLEAN}, {0, 1, 1}, {1, 1, 1}},
+    {5, {201, UNLOADED, CLEAN}, {1, 0, 1}, {1, 1, 1}},
+    {7, {201, 300, CLEAN}, {1, 1, 1}, {1, 1, 1}},
+    {5, {200, 199, CLEAN}, {0, 0, 1}, {1, 1, 0}},
+    {5, {200, UNLOADED, CLEAN}, {0, 0, 1}, {1, 1, 0}},
+    {7, {UNLOADED, RIPPLE, 200}, {0, 0, 0}, {1, 1, 1}}};
+
+/* Accepted sets from number k on: the phases in their order, but from `turn` on. */
+static void form_sets(struct relay *relay, const int16_t phase[SYSTEMS], size_t turn,
+                      size_t k, size_t sets, struct answer *a)
+{
+    for (size_t end = k + sets; k < end; k++) {
+        int16_t list[SET_NUMBERS] = {0};
+
+        for (size_t y = 0; y < SYSTEMS; y++)
+            list[y] = form_sample(phase[(y + turn) % SYSTEMS], k);
+        meet("form set", relay_sample(relay, list, SET_NUMBERS, a), 0);
+    }
+}
+
+/* The cases, each with every phase as A; M is 1, so that what starts and isn't
+ * blocked trips. */
+static void check_held(void)
+{
+    for (size_t i = 0; i < 3 * sizeof HELD / sizeof HELD[0]; i++) {
+        const struct held *one = &HELD[i / 3];
+        struct setting s = plain_setting;
+        struct relay relay;
+        struct answer a = {0};
+        size_t offset;
+
+        s.flags = one->flags;
+        meet("start", relay_start(&s, &relay, &offset), 0);
+        form_sets(&relay, one->phase, i % 3, 0, WINDOW_SETS, &a);
+        for (size_t y = 0; y < SYSTEMS; y++) {
+            size_t from = (y + i) % SYSTEMS;
+
+            meet("held start", a.system[y].start, one->start[from]);
+            meet("held blocked", a.system[y].blocked, one->blocked[from]);
+            meet("held trip", a.latched[y], one->start[from] && !one->blocked[from]);
+            meet("mask", page_byte(&relay, 2) >> y & 1, one->blocked[from]);
+        }
+    }
+}
+
+/* Phases A, B, C over some cycles: which systems are blocked at each full window,
+ * and whether the first trips. M is 3, P 200, H 8,000. A peak of 200 has a D of 199
+ * or 200 at each set, one of 1,000 at least 999. */
+struct lasting {
+    int16_t phase[SYSTEMS];
+    uint8_t blocked[SYSTEMS], trip;
+};
+
+static const struct lasting LASTING[] = {
+    {{CLEAN, UNLOADED, NOTHING}, {0, 1, 0}, 1},
+    {{CLEAN, UNLOADED, UNLOADED}, {0, 1, 1}, 1},
+    {{CLEAN, 200, NOTHING}, {0, 1, 0}, 1},
+    {{CLEAN, 1000, NOTHING}, {1, 1, 1}, 0},
+    {{HIGH, UNLOADED, NOTHING}, {0, 1, 0}, 1},
+    {{HIGH, 1000, NOTHING}, {1, 1, 1}, 1}};
+
+/* So many sets from number k on with a full window; the first system is latched
+ * from the third of them on, if it trips. */
+static void lasting_sets(struct relay *relay, const struct lasting *one, size_t k,
+                         size_t sets)
+{
+    struct answer a = {0};
+
+    for (size_t i = 1; i <= sets; i++) {
+        form_sets(relay, one->phase, 0, k + i - 1, 1, &a);
+        for (size_t y = 0; y < SYSTEMS; y++) {
+            meet("blocked at each", a.system[y].blocked, one->blocked[y]);
+            meet("latched", a.latched[y], y == 0 && one->trip && i >= 3);
+        }
+    }
+}
+
+/* M sets lead to a trip, and M sets after a reset to another; the high-set counts
+ * for a system that is held back. */
+static void check_held_trips(void)
+{
+    struct setting s = plain_setting;
+
+    s.flags = BLOCK_ON_SECOND | COMMON_BLOCKING;
+    s.confirm = 3;
+    for (size_t i = 0; i < sizeof LASTING / sizeof LASTING[0]; i++) {
+        struct relay relay;
+        struct answer a;
+        size_t offset;
+
+        meet("start", relay_start(&s, &relay, &offset), 0);
+        form_sets(&relay, LASTING[i].phase, 0, 0, WINDOW_SETS - 1, &a);
+        lasting_sets(&relay, &LASTING[i], 11, 9);
+        meet("reset", relay_reset(&relay), 0);
+        lasting_sets(&relay, &LASTING[i], 20, 20);
+    }
+}
+
+/* ---- Drawn windows under common blocking ---- */
+
+#define DRAWN_WINDOWS 12000
+
+/* Windows with common blocking: in all, those where document 01 blocks a system that
+ * card 4 does not, those of them where it starts, those where a system is held back
+ * by another alone; and systems with harmonics by D: P - 1, P, P + 1, zero. */
+static struct {
+    unsigned common, freed, freed_start, held, at[3], zero;
+} drawn;
+
+/* Whether a system has harmonics, by document 01. */
+static int reads_harmonics(const struct setting *s, const struct measured *m)
+{
+    int64_t d = m->differential, second = m->second, fifth = m->fifth;
+
+    return (s->flags % 2 == 1 && 100 * second > s->second * d) ||
+           (s->flags / 2 % 2 == 1 && 100 * fifth > s->fifth * d);
+}
+
+/* Whether another system holds back system y: by document 02, card 4, with D above
+ * P; by document 01, with any. */
+static int reads_held(const struct setting *s, const struct measured m[SYSTEMS],
+                      size_t y, int64_t above)
+{
+    for (size_t other = 0; other < SYSTEMS; other++)
+        if (s->flags >= 4 && other != y && reads_harmonics(s, &m[other]) &&
+            m[other].differential > above)
+            return 1;
+    return 0;
+}
+
+/* Counts a window with common blocking. */
+static void count_drawn(const struct setting *s, const struct measured m[SYSTEMS])
+{
+    int freed = 0, start = 0, held = 0;
+
+    for (size_t y = 0; y < SYSTEMS; y++) {
+        int own = reads_harmonics(s, &m[y]), now = reads_held(s, m, y, s->pick_up);
+        int more = !own && !now && reads_held(s, m, y, -1);
+        int64_t above = m[y].differential - s->pick_up;
+
+        if (own && above >= -1 && above <= 1)
+            drawn.at[above + 1]++;
+        drawn.zero += own && m[y].differential == 0;
+        freed |= more;
+        start |= more && m[y].start;
+        held |= !own && now;
+    }
+    drawn.common++;
+    drawn.freed += (unsigned)freed;
+    drawn.freed_start += (unsigned)start;
+    drawn.held += (unsigned)held;
+}
+
+/* Window number i: each number of ends, every other one without groups and filters;
+ * common blocking in seven of eight; a wave, and on end 0 what an unloaded phase
+ * has; P at a system's D or beside it, if it can be. */
+static void draw_window(struct draw *d, unsigned i, struct setting *s,
+                        int16_t list[WINDOW_NUMBERS])
+{
+    struct wave wave;
+
+    draw_setting(d, (uint8_t)(2 + i % 3), s);
+    s->flags = (uint8_t)(i % 8 == 0 ? draw_from(d, 0, 3) : draw_from(d, 4, 7));
+    for (size_t z = 0; i % 2 && z < s->ends; z++)
+        s->end[z].group = s->end[z].filter = 0;
+    draw_wave(d, s, draw_spread(d, 200, 8000), (unsigned)draw_from(d, 0, 3), &wave);
+    for (size_t k = 0; k < WINDOW_SETS; k++) {
+        int16_t *set = list + SET_NUMBERS * k;
+
+        wave_set(&wave, s, k, set);
+        for (size_t y = 0; y < SYSTEMS; y++)
+            set[y] = clip_sample(set[y] + unloaded_sample(k));
+    }
+    aim_pick_up(list, (size_t)draw_from(d, 0, 2), draw_from(d, -1, 1), s);
+}
+
+/* Tells what was drawn; each of it is there some hundred times. */
+static void tell_drawn(void)
+{
+    const unsigned count[] = {drawn.freed, drawn.freed_start, drawn.held, drawn.at[0],
+                              drawn.at[1], drawn.at[2], drawn.zero};
+
+    for (size_t i = 0; i < sizeof count / sizeof count[0]; i++)
+        meet("hundreds drawn", count[i] >= 200, 1);
+    printf("second: %u windows drawn, %u with common blocking: 01 blocks more %u, of "
+           "them a start %u; held by another %u; harmonics with D at P - 1, P, P + 1, "
+           "0: %u, %u, %u, %u\n", DRAWN_WINDOWS, drawn.common, count[0], count[1],
+           count[2], count[3], count[4], count[5], count[6]);
+}
+
+/* Blocking against the words of card 4: its own harmonics, or under common blocking
+ * another system with harmonics and D above P. */
+static void check_drawn_windows(void)
+{
+    struct draw d = {0xC4B10C};
+
+    for (unsigned i = 0; i < DRAWN_WINDOWS; i++) {
+        int16_t list[WINDOW_NUMBERS];
+        struct measured m[SYSTEMS];
+        struct setting s;
+
+        draw_window(&d, i, &s, list);
+        measure_list(&s, list, m);
+        for (size_t y = 0; y < SYSTEMS; y++)
+            meet("blocked", m[y].blocked, reads_harmonics(&s, &m[y]) ||
+                                              reads_held(&s, m, y, s.pick_up));
+        if (s.flags >= 4)
+            count_drawn(&s, m);
+    }
+    tell_drawn();
+}
+
+/* Who holds back whom under common blocking (document 02, card 4). */
+static void check_common_blocking(void)
+{
+    check_forms();
+    check_held();
+    check_held_trips();
+    check_drawn_windows();
+}
+
 int main(void)
 {
     check_factors();
@@ -1369,6 +1693,7 @@ int main(void)
     check_turned_lists();
     check_page();
     check_paged_lists();
+    check_common_blocking();
     if (failures != 0) {
         printf("second: selftest %u of %u checks fail\n", failures, checks);
         return 1;

@@ -7,8 +7,10 @@
 #include <string.h>
 
 #define VECTORS 600
+#define HELD 60             /* windows behind them, for common blocking */
 #define KINDS 15
 #define RETRIES 40
+#define HELD_RETRIES 2000
 #define FILLED 7
 
 /* A setting and the twelve sets of its window. */
@@ -120,10 +122,7 @@ static void match_window(const struct vector *v, int32_t values[WINDOW_NUMBERS])
 /* Measures a window with its setting. */
 static void measure(const struct vector *v, struct measured m[SYSTEMS])
 {
-    int32_t values[WINDOW_NUMBERS];
-
-    match_window(v, values);
-    measure_window(&v->setting, values, m);
+    measure_list(&v->setting, v->list, m);
 }
 
 /* How far a system is above its characteristic, in 200ths. */
@@ -277,6 +276,76 @@ static void build(struct draw *d, size_t i, struct vector *v)
     }
 }
 
+/* ---- Common blocking ---- */
+
+/* Whether only system y can hold back another one that starts: y has harmonics, the
+ * other has none, and none but y has harmonics and D above P. Common blocking is
+ * still off, so that each is blocked by its own harmonics. */
+static int decides(const struct vector *v, size_t y)
+{
+    struct measured m[SYSTEMS];
+    int another = 0;
+
+    measure(v, m);
+    for (size_t other = 0; other < SYSTEMS; other++) {
+        if (other == y)
+            continue;
+        if (m[other].blocked && m[other].differential > v->setting.pick_up)
+            return 0;
+        another |= m[other].start && !m[other].blocked;
+    }
+    return m[y].blocked && another;
+}
+
+/* Waves with harmonics until one system decides, its D so much above P. */
+static void holder_window(struct draw *d, struct vector *v, size_t y, int64_t above)
+{
+    for (int i = 0; i < HELD_RETRIES; i++) {
+        memset(v->list, 0, sizeof v->list);
+        wave_window(d, v, 6000, 3);
+        if (aim_pick_up(v->list, y, above, &v->setting) && decides(v, y))
+            return;
+    }
+}
+
+/* Waves without harmonics, until a system that is unloaded decides: of groups 0
+ * without filter, and with factor 1 at end 0. */
+static void unloaded_window(struct draw *d, struct vector *v, size_t y)
+{
+    draw_eighths(d, &v->setting);
+    v->setting.end[0].current = 1000;
+    v->setting.flags |= BLOCK_ON_SECOND;
+    for (size_t z = 0; z < v->setting.ends; z++)
+        v->setting.end[z].group = v->setting.end[z].filter = 0;
+    for (int tries = 0; tries < HELD_RETRIES; tries++) {
+        memset(v->list, 0, sizeof v->list);
+        wave_window(d, v, 40000, 0);
+        for (size_t i = y; i < WINDOW_NUMBERS; i += SYSTEMS)
+            v->list[i] = i % 12 == y ? unloaded_sample(i / 12) : 0;
+        if (decides(v, y))
+            return;
+    }
+}
+
+/* Window number i for common blocking (02, card 4), off in one of ten: a system with
+ * harmonics, D one below P, P, one above it, or 0. */
+static void build_held(struct draw *d, size_t i, struct vector *v)
+{
+    static const uint8_t harmonics[3] = {BLOCK_ON_SECOND, BLOCK_ON_FIFTH,
+                                         BLOCK_ON_SECOND | BLOCK_ON_FIFTH};
+    size_t y = (size_t)draw_from(d, 0, 2), kind = i / 3 % 4;
+
+    memset(v, 0, sizeof *v);
+    draw_turn(d, i, &v->setting);
+    v->setting.flags = harmonics[i / 12 % 3];
+    if (kind < 3)
+        holder_window(d, v, y, (int64_t)kind - 1);
+    else
+        unloaded_window(d, v, y);
+    if (i % 10 != 9)
+        v->setting.flags |= COMMON_BLOCKING;
+}
+
 /* Both blocks of a window; 0 when one cannot be written. */
 static int put_input(const struct vector *v)
 {
@@ -363,8 +432,11 @@ int main(int argc, char **argv)
         fputs("usage: vectors input|expect\n", stderr);
         return 2;
     }
-    for (size_t i = 0; i < VECTORS; i++) {
-        build(&d, i, &v);
+    for (size_t i = 0; i < VECTORS + HELD; i++) {
+        if (i < VECTORS)
+            build(&d, i, &v);
+        else
+            build_held(&d, i - VECTORS, &v);
         if (!(input ? put_input(&v) : put_expected(&v)))
             return 1;
     }

@@ -36,9 +36,9 @@ starts v D R = firstSection (v .thresholds) D R || (secondSection (v .thresholds
 unfoldable pub hasHarmonics : Setting → (D H2 H5 : ℕ) → Bool
 hasHarmonics v D H2 H5 = (secondOn v && ltb (v .thresholds .second * D) (100 * H2)) || (fifthOn v && ltb (v .thresholds .fifth * D) (100 * H5))
 
--- Under common blocking it holds back others when it has harmonics.
+-- Under common blocking it holds back others exactly when it has harmonics and its own D exceeds P (02, card 4).
 unfoldable pub holdsBack : Setting → (D H2 H5 : ℕ) → Bool
-holdsBack v D H2 H5 = hasHarmonics v D H2 H5
+holdsBack v D H2 H5 = hasHarmonics v D H2 H5 && ltb (v .thresholds .basic) D
 
 -- what its harmonics hold back: itself, and others
 unfoldable pub heldBy : Setting → (D H2 H5 : ℕ) → Held

@@ -85,6 +85,16 @@ fn harmonics(v: Setting, c: Currents) -> bool
     or(second, fifth)
 }
 
+// Whether a system holds back others: it has harmonics, and D exceeds P.
+fn holds_back(harmonics: bool, p: u16, d: u32) -> bool
+    ensures { λ b. ⌜ b ≡ (harmonics && ltb p d) ⌝ }
+{
+    if harmonics {
+        return wide(p) < d;
+    }
+    false
+}
+
 // What the harmonics of a system hold back.
 pub fn blocking(v: Setting, c: Currents) -> Held
     ensures { λ b. ⌜ b ≡ heldBy v (c .d) (c .h2) (c .h5) ⌝ }
@@ -92,7 +102,7 @@ pub fn blocking(v: Setting, c: Currents) -> Held
     let own = harmonics(v, c);
     Held {
         own: own,
-        others: own,
+        others: holds_back(own, v.thresholds.basic, c.d),
     }
 }
 

@@ -1,4 +1,6 @@
 pub mod Window
 pub mod Measuring
+pub mod Holding
+pub mod Unloaded
 pub mod WindowInput
 pub mod Numbers

@@ -41,7 +41,7 @@ harmonics v win l = hasHarmonics v (differential v win l) (second v win l) (fift
 unfoldable pub holding : Setting → List ℤ → System → Bool
 holding v win l = holdsBack v (differential v win l) (second v win l) (fifth v win l)
 
--- It is blocked when it has harmonics, or, with common blocking, when any system holds back others; one that does so has harmonics itself.
+-- It is blocked when it has harmonics, or, with common blocking, when any system holds back others. (One that does has harmonics and is blocked too.)
 unfoldable pub blocked : Setting → List ℤ → System → Bool
 blocked v win l = harmonics v win l || (commonOn v && (holding v win sysA || (holding v win sysB || holding v win sysC)))
 

@@ -10,6 +10,7 @@ ghost use Rattle.matching.specs.Sets.{system};
 ghost use Rattle.characteristic.specs.Characteristic.{starts as startsOf, commonOn};
 ghost use Rattle.measuring.specs.Window.{series as seriesOf, sums as sumsOf, difference as differenceOf};
 ghost use Rattle.measuring.specs.Measuring.{twiceRestraint, start, currentsOf, readingsOf};
+ghost use Rattle.measuring.specs.Holding.{CommonBlocking};
 ghost use Rattle.measuring.specs.WindowInput.{PlaceInput, SumInput, Measurable, SystemInput};
 use amplitude::Harmonic;
 use characteristic::Currents;
@@ -195,3 +196,8 @@ pub fn measure(v: Setting, win: &[i32]) -> Readings
         c: system_reading(v, c, by_c.own, any),
     }
 }
+
+// Which systems hold back others (02, card 4): no code, the statement and its proof.
+pub fn common_blocking()
+    ensures { λ _. ⌜ CommonBlocking ⌝ }
+{}

@@ -46,6 +46,21 @@ twoEnds s a b =
 unfoldable pub plain : Setting
 plain = twoEnds 1351 (rated 780 1000) (rated 780 1000)
 
+-- the same with these flags: 1 second-harmonic blocking, 2 fifth, 4 common
+unfoldable pub flagged : ℕ → Setting
+flagged f =
+    record {
+      ends = plain .ends;
+      flags = f;
+      confirm = plain .confirm;
+      power = plain .power;
+      e0 = plain .e0;
+      e1 = plain .e1;
+      e2 = plain .e2;
+      e3 = plain .e3;
+      thresholds = plain .thresholds;
+    }
+
 -- the factory setting (02, card 14): S 40 MVA; 110 kV and 300 A, group 0, filter on; 20 kV and 1,200 A, group 5, filter off
 unfoldable pub factory : Setting
 factory =

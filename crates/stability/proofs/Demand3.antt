@@ -57,7 +57,7 @@ use Rattle.relay.proofs.Induction.{Invariant, along, last, every}
 use Rattle.stability.specs.Lists.{last12, windowOf, filing}
 use Rattle.stability.proofs.Filing.{Twelve, each-last12}
 use Rattle.stability.specs.Stability.{HealthyCall, Calm, CalmReply, CalmCall, Without12, Still, Stability}
-use Rattle.stability.specs.Example.{latchAfter, fault-trips, FaultUnhealthy}
+use Rattle.stability.specs.Example.{latchAfter, tripped, fault, fault-trips, FaultUnhealthy}
 use Rattle.stability.proofs.Demand2.{Filed, filed-fresh, window-now, filed-kept}
 
 -- the sums over the ends are small
@@ -248,10 +248,10 @@ unfolding Stability
 stability v s cs hs = every (invariant v s) (λ ws r q. q .still) (λ ws r c k. k) (along (invariant v s) s hs)
 
 pub fault-unhealthy : FaultUnhealthy
-unfolding FaultUnhealthy latchAfter
+unfolding FaultUnhealthy latchAfter tripped
 fault-unhealthy hs =
     let s : startable plain ≡ true = cc fault-trips in
-    let trips : latchAfter sysA ≡ true = cc fault-trips in
+    let trips : latchAfter plain fault sysA ≡ true = cc fault-trips in
     let I = invariant plain (is-T s) in
-    let none : latchAfter sysA ≡ false = last I (along I (is-T s) hs) .1 .still .no-latch sysA in
+    let none : latchAfter plain fault sysA ≡ false = last I (along I (is-T s) hs) .1 .still .no-latch sysA in
     true≢false (sym trips ∙ none)

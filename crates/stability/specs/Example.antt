@@ -1,14 +1,15 @@
 -- A relay that trips, beside demand 3: the setting and the sets of document 01's bench run (under "Numbers to meet"), after which system 1 alone is
--- latched; so they are not those of a healthy bank.
+-- latched; so they are not those of a healthy bank. And the case of 02's card 4, a fault beside an unloaded phase, which trips alike.
 use mathlib.Core.Path.{_≡_, refl}
 use mathlib.Core.Bool.{Bool, true, false}
 use mathlib.Core.List.{List, [], _∷_, _++_}
-use lib.IntN.{pos}
+use lib.IntN.{pos, _*ℤ_}
 use lib.ListN.{replicate}
 use Rattle.bits.specs.Bits.{bitsOf, maskOf}
 use Rattle.page.specs.Events.{raised}
+use Rattle.setting.specs.declared.Setting.{Setting}
 use Rattle.setting.specs.Values.{startable, factor, factorHigh, factorsLow, valueRows}
-use Rattle.setting.specs.Worked.{plain}
+use Rattle.setting.specs.Worked.{plain, flagged}
 use Rattle.integer.specs.Nearest.{nearestAway, nearest, floor}
 use Rattle.integer.specs.Root.{rootBy}
 use Rattle.integer.specs.Sum.{sum}
@@ -20,6 +21,7 @@ use Rattle.matching.specs.Sets.{System, sysA, sysB, sysC, seen, matchedAt, numb
 use Rattle.amplitude.specs.Amplitude.{t, weightedSum, cycle, amplitude}
 use Rattle.characteristic.specs.Characteristic.{starts, hasHarmonics, holdsBack}
 use Rattle.measuring.specs.Measuring.{twiceRestraint, harmonics, holding, blocked, readingOf, readingsOf}
+use Rattle.measuring.specs.Unloaded.{ripple}
 use Rattle.state.specs.State.{elementOf, elementAfter, windowWith}
 use Rattle.relay.specs.Record.{fresh, admissible}
 use Rattle.relay.specs.Calls.{setRows, sampleRows, relayNow}
@@ -30,11 +32,20 @@ use Rattle.stability.specs.Stability.{HealthyCall}
 pub fault : List Call
 fault = replicate 11 (sample (replicate 12 (pos 0))) ++ (sample (pos 3000 ∷ replicate 11 (pos 0)) ∷ [])
 
-unfoldable pub latchAfter : System → Bool
-latchAfter l = elementOf (run (fresh plain) fault .trip) l .latch
+-- at end 0, twice the constants t of 01 on phase A, and D 0 and H2 1 on phase B
+pub beside : List Call
+beside = upTo 12 (λ k. sample ((pos 2 *ℤ t k) ∷ ripple k ∷ replicate 10 (pos 0)))
 
-pub fault-trips : startable plain ∷ latchAfter sysA ∷ latchAfter sysB ∷ latchAfter sysC ∷ [] ≡ true ∷ true ∷ false ∷ false ∷ []
-unfolding plain fault latchAfter factor factorHigh factorsLow valueRows nearestAway nearest floor rootBy sum upTo operation operated matched seen matchedAt numbers
+unfoldable pub latchAfter : Setting → List Call → System → Bool
+latchAfter v cs l = elementOf (run (fresh v) cs .trip) l .latch
+
+-- whether a relay can be started on a setting, and whether systems 1, 2, 3 are latched after these calls on it
+unfoldable pub tripped : Setting → List Call → List Bool
+tripped v cs = startable v ∷ latchAfter v cs sysA ∷ latchAfter v cs sysB ∷ latchAfter v cs sysC ∷ []
+
+-- each of the two trips system 1 alone, the second with second-harmonic and common blocking on
+pub fault-trips : tripped plain fault ∷ tripped (flagged 5) beside ∷ [] ≡ (true ∷ true ∷ false ∷ false ∷ []) ∷ (true ∷ true ∷ false ∷ false ∷ []) ∷ []
+unfolding plain flagged fault beside ripple tripped latchAfter factor factorHigh factorsLow valueRows nearestAway nearest floor rootBy sum upTo operation operated matched seen matchedAt numbers
     t weightedSum cycle amplitude twiceRestraint harmonics holding blocked starts hasHarmonics holdsBack elementAfter fresh admissible windowWith setRows sampleRows relayNow eqZ raised bitsOf maskOf readingOf readingsOf
 fault-trips = refl
 

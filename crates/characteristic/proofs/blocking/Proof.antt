@@ -7,9 +7,12 @@ use Rattle.characteristic.proofs.blocking.Tie as tie
 harmonics-requires : tie.Need-harmonics-requires
 harmonics-requires c κs = search needs
 
+holds-back-requires : tie.Need-holds-back-requires
+holds-back-requires c κs = search needs
+
 returns : tie.Need-returns
 unfolding heldBy holdsBack
-returns c = rw (c .harmonics .ensures)
+returns c = rw (c .holds-back .ensures, c .before .harmonics .ensures)
 
 pub blocking-spec : {M : Type 1} → statement M
-blocking-spec = tie.close (tie.spec harmonics-requires returns)
+blocking-spec = tie.close (tie.spec harmonics-requires holds-back-requires returns)
