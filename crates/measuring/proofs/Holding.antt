@@ -15,7 +15,7 @@ use Rattle.amplitude.proofs.Same.{amplitude-same}
 use Rattle.characteristic.specs.Characteristic.{commonOn, holdsBack}
 use Rattle.measuring.specs.Window.{at, sums}
 use Rattle.measuring.specs.Measuring.{differential, harmonics, holding, blocked}
-use Rattle.measuring.specs.Holding.{Holder, Another, Unloaded, AlikeBut, Blocking, CommonBlocking}
+use Rattle.measuring.specs.Holding.{Holder, Another, Unloaded, AlikeBut, CommonBlocking}
 
 -- ---- tests
 

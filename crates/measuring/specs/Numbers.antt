@@ -64,16 +64,19 @@ matchings =
 
 -- ---- windows and the characteristic
 
--- six 100, then six −100; and twelve of 100
+-- six 100, then six −100; twelve of 100; and twelve of 0
 square : ℕ → ℤ
 square k = cond (ltb k 6) (pos 100) (negsuc 99)
 
 flat : ℕ → ℤ
 flat k = pos 100
 
--- the window with these numbers at end 0 and system 1, and zero elsewhere
-window : (ℕ → ℤ) → List ℤ
-window u = upTo 144 (λ i. cond (eqb (i % 12) 0) (u (i / 12)) (pos 0))
+idle : ℕ → ℤ
+idle k = pos 0
+
+-- the window with these numbers of systems 1 and 2 at end 0, and zero elsewhere
+unfoldable pub window : (a b : ℕ → ℤ) → List ℤ
+window a b = upTo 144 (λ i. cond (eqb (i % 12) 0) (a (i / 12)) (cond (eqb (i % 12) 1) (b (i / 12)) (pos 0)))
 
 -- 1 where it starts
 starting : (R D : ℕ) → ℤ
@@ -81,10 +84,10 @@ starting R D = cond (starts plain D R) (pos 1) (pos 0)
 
 measurings : List Worked
 measurings =
-    (pos (differential plain (window square) sysA), pos 128)
-    ∷ (pos (second plain (window square) sysA), pos 0)
-    ∷ (pos (fifth plain (window square) sysA), pos 34)
-    ∷ (pos (differential plain (window flat) sysA), pos 0)
+    (pos (differential plain (window square idle) sysA), pos 128)
+    ∷ (pos (second plain (window square idle) sysA), pos 0)
+    ∷ (pos (fifth plain (window square idle) sysA), pos 34)
+    ∷ (pos (differential plain (window flat idle) sysA), pos 0)
     ∷ (starting 200 201, pos 1)
     ∷ (starting 200 200, pos 0)
     ∷ (starting 1200 351, pos 1)
@@ -99,6 +102,6 @@ pub table : List Worked
 table = settings ++ (matchings ++ measurings)
 
 pub table-met : map (λ r. r .0) table ≡ map (λ r. r .1) table
-unfolding table settings matchings measurings square flat window plain starting factor factorHigh factorsLow valueRows seen
+unfolding table settings matchings measurings square flat idle window plain starting factor factorHigh factorsLow valueRows seen
     matched operated operation starts amplitude cycle weightedSum t sum nearestAway nearest floor rootBy upTo
 table-met = refl

@@ -3,7 +3,7 @@
 use mathlib.Core.Path.{_≡_, refl}
 use mathlib.Core.Bool.{Bool, cond}
 use mathlib.Core.List.{List, [], _∷_, map}
-use Prim.Native.Nat.{ℕ, _/_, _%_}
+use Prim.Native.Nat.{ℕ, _%_}
 use lib.Dec.{eqb}
 use lib.IntN.{ℤ, pos, negsuc, _*ℤ_}
 use Rattle.integer.specs.Nearest.{nearestAway, nearest, floor}
@@ -14,7 +14,12 @@ use Rattle.setting.specs.Worked.{plain, flagged}
 use Rattle.matching.specs.Sets.{sysA, sysB, sysC}
 use Rattle.amplitude.specs.Amplitude.{t, weightedSum, cycle, amplitude}
 use Rattle.characteristic.specs.Characteristic.{starts, hasHarmonics, holdsBack}
+use Rattle.measuring.specs.Numbers.{window}
 use Rattle.measuring.specs.Measuring.{differential, second, twiceRestraint, start, harmonics, holding, blocked}
+
+-- the fault, on system 1: twice the constants t of 01
+fault : ℕ → ℤ
+fault k = pos 2 *ℤ t k
 
 -- on system 2: 1, 0, 0, −1, 0, 0 over and over, which has no first harmonic;
 unfoldable pub ripple : ℕ → ℤ
@@ -24,19 +29,17 @@ ripple k = cond (eqb (k % 6) 0) (pos 1) (cond (eqb (k % 6) 3) (negsuc 0) (pos 0)
 pulse : ℤ → ℕ → ℤ
 pulse x k = cond (eqb k 0) x (pos 0)
 
--- the window with a fault at end 0 on system 1, twice the constants t of 01, these numbers there on system 2, and zero elsewhere
-window : (ℕ → ℤ) → List ℤ
-window u = upTo 144 (λ i. cond (eqb (i % 12) 0) (pos 2 *ℤ t (i / 12)) (cond (eqb (i % 12) 1) (u (i / 12)) (pos 0)))
-
 -- D and H2 of system 2; then 1 where system 1 starts; then 1 for each of systems 1, 2, 3 that is blocked
 measured : (flags : ℕ) → (ℕ → ℤ) → List ℕ
 measured f u =
-    differential (flagged f) (window u) sysB
-    ∷ second (flagged f) (window u) sysB
-    ∷ bit (start (flagged f) (window u) sysA)
-    ∷ bit (blocked (flagged f) (window u) sysA)
-    ∷ bit (blocked (flagged f) (window u) sysB)
-    ∷ bit (blocked (flagged f) (window u) sysC)
+    let v = flagged f in
+    let win = window fault u in
+    differential v win sysB
+    ∷ second v win sysB
+    ∷ bit (start v win sysA)
+    ∷ bit (blocked v win sysA)
+    ∷ bit (blocked v win sysB)
+    ∷ bit (blocked v win sysC)
     ∷ []
   where
     bit : Bool → ℕ
@@ -57,6 +60,6 @@ table =
     ∷ []
 
 pub unloaded-met : map (λ r. r .0) table ≡ map (λ r. r .1) table
-unfolding table measured flagged plain window ripple pulse upTo blocked harmonics holding holdsBack hasHarmonics starts twiceRestraint
+unfolding table measured flagged plain window fault ripple pulse upTo blocked harmonics holding holdsBack hasHarmonics starts twiceRestraint
     amplitude cycle weightedSum t sum nearestAway nearest floor rootBy
 unloaded-met = refl

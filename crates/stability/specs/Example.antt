@@ -45,8 +45,9 @@ tripped v cs = startable v ∷ latchAfter v cs sysA ∷ latchAfter v cs sysB ∷
 
 -- each of the two trips system 1 alone, the second with second-harmonic and common blocking on
 pub fault-trips : tripped plain fault ∷ tripped (flagged 5) beside ∷ [] ≡ (true ∷ true ∷ false ∷ false ∷ []) ∷ (true ∷ true ∷ false ∷ false ∷ []) ∷ []
-unfolding plain flagged fault beside ripple tripped latchAfter factor factorHigh factorsLow valueRows nearestAway nearest floor rootBy sum upTo operation operated matched seen matchedAt numbers
-    t weightedSum cycle amplitude twiceRestraint harmonics holding blocked starts hasHarmonics holdsBack elementAfter fresh admissible windowWith setRows sampleRows relayNow eqZ raised bitsOf maskOf readingOf readingsOf
+unfolding plain flagged fault beside ripple tripped latchAfter factor factorHigh factorsLow valueRows nearestAway nearest floor rootBy sum upTo
+    operation operated matched seen matchedAt numbers t weightedSum cycle amplitude twiceRestraint harmonics holding blocked starts hasHarmonics
+    holdsBack elementAfter fresh admissible windowWith setRows sampleRows relayNow eqZ raised bitsOf maskOf readingOf readingsOf
 fault-trips = refl
 
 -- not each of these sets is that of a healthy bank
