@@ -15,7 +15,7 @@ use Rattle.amplitude.proofs.Same.{amplitude-same}
 use Rattle.characteristic.specs.Characteristic.{commonOn, holdsBack}
 use Rattle.measuring.specs.Window.{at, sums}
 use Rattle.measuring.specs.Measuring.{differential, harmonics, holding, blocked}
-use Rattle.measuring.specs.Holding.{Holder, Another, Unloaded, AlikeBut, CommonBlocking}
+use Rattle.measuring.specs.Holding.{Holder, Other, Another, Unloaded, AlikeBut, CommonBlocking}
 
 -- ---- tests
 
@@ -48,7 +48,7 @@ system-index sysA = refl
 system-index sysB = refl
 system-index sysC = refl
 
-same-or-not : (l m : System) {X : Type 0} → (l ≡ m → X) → ((l ≡ m → ⊥) → X) → X
+same-or-not : (l m : System) {X : Type 0} → (l ≡ m → X) → (Other l m → X) → X
 same-or-not l m {X} is isn't = by (eqb (index l) (index m)) refl
   where
     by : (b : Bool) → eqb (index l) (index m) ≡ b → X
@@ -105,12 +105,12 @@ module _ (v : Setting) (win : List ℤ) where
 -- ---- windows that differ in one system
 
 module _ (v : Setting) (win win' : List ℤ) (m : System) (alike : AlikeBut m win win') where
-  of-sums : (l : System) → (l ≡ m → ⊥) → (h : ℕ) → amplitude h (sums (v .ends) win l) ≡ amplitude h (sums (v .ends) win' l)
+  of-sums : (l : System) → Other l m → (h : ℕ) → amplitude h (sums (v .ends) win l) ≡ amplitude h (sums (v .ends) win' l)
   of-sums l n h =
       amplitude-same (sums (v .ends) win l) (sums (v .ends) win' l)
       (λ k i. sum-same (λ z. at win k z l) (λ z. at win' k z l) (v .ends) (λ z j. alike l n k z)) h
 
-  harmonics-alike : (l : System) → (l ≡ m → ⊥) → harmonics v win l ≡ harmonics v win' l
+  harmonics-alike : (l : System) → Other l m → harmonics v win l ≡ harmonics v win' l
   unfolding harmonics
   harmonics-alike l n = rw (of-sums l n 1, of-sums l n 2, of-sums l n 5)
 
@@ -121,7 +121,7 @@ module _ (v : Setting) (win win' : List ℤ) (m : System) (alike : AlikeBut m wi
       (λ e. ap (holding v win) e ∙ holding-no v win m u ∙ sym (holding-no v win' m u') ∙ sym (ap (holding v win') e))
       (λ n. rw (of-sums l n 1, of-sums l n 2, of-sums l n 5))
 
-  blocked-alike : Unloaded v win m → Unloaded v win' m → (l : System) → (l ≡ m → ⊥) → blocked v win l ≡ blocked v win' l
+  blocked-alike : Unloaded v win m → Unloaded v win' m → (l : System) → Other l m → blocked v win l ≡ blocked v win' l
   unfolding blocked
   blocked-alike u u' l n =
       rw (harmonics-alike l n, holding-alike u u' sysA, holding-alike u u' sysB, holding-alike u u' sysC)

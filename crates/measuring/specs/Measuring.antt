@@ -35,6 +35,7 @@ twiceRestraint E win l = cond (eqb E 2) (amplitude 1 (difference win l)) (sumℕ
 abbrev pub start : Setting → List ℤ → System → Bool
 start v win l = starts v (differential v win l) (twiceRestraint (v .ends) win l)
 
+-- whether it has harmonics, and whether it holds back others under common blocking
 unfoldable pub harmonics : Setting → List ℤ → System → Bool
 harmonics v win l = hasHarmonics v (differential v win l) (second v win l) (fifth v win l)
 
