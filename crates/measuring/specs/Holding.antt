@@ -1,5 +1,6 @@
 -- Common blocking (document 02, card 4): what a system does to the others, told by harmonics and D alone.
 use mathlib.Core.Path.{_≡_}
+use mathlib.Core.Logic.{_≢_}
 use mathlib.Core.Bool.{true, false}
 use mathlib.Core.List.{List}
 use Prim.Native.Nat.{ℕ, _≤_, _<_}
@@ -10,10 +11,6 @@ use Rattle.characteristic.specs.Characteristic.{commonOn}
 use Rattle.measuring.specs.Window.{at}
 use Rattle.measuring.specs.Measuring.{differential, harmonics, blocked}
 
--- two systems that are not the same
-abbrev pub Other : (l m : System) → Type 0
-Other l m = l ≡ m → ⊥
-
 -- with common blocking on, a system that has harmonics and a D above P
 pub record Holder (v : Setting) (win : List ℤ) (m : System) : Type 0 where
   pub common : commonOn v ≡ true
@@ -23,7 +20,7 @@ pub record Holder (v : Setting) (win : List ℤ) (m : System) : Type 0 where
 -- such a one other than l
 pub record Another (v : Setting) (win : List ℤ) (l : System) : Type 0 where
   pub one : System
-  pub other : Other one l
+  pub other : one ≢ l
   pub holder : Holder v win one
 
 -- a system whose D is at most P
@@ -32,7 +29,7 @@ Unloaded v win m = differential v win m ≤ v .thresholds .basic
 
 -- windows that differ in the numbers of system m at most
 abbrev pub AlikeBut : System → (win win' : List ℤ) → Type 0
-AlikeBut m win win' = (l : System) → Other l m → (k z : ℕ) → at win k z l ≡ at win' k z l
+AlikeBut m win win' = (l : System) → l ≢ m → (k z : ℕ) → at win k z l ≡ at win' k z l
 
 pub record Blocking (v : Setting) (win : List ℤ) : Type 0 where
   -- one that has harmonics and a D above P blocks all three
@@ -42,7 +39,7 @@ pub record Blocking (v : Setting) (win : List ℤ) : Type 0 where
   -- one with no harmonics is blocked by nothing but such another
   pub held : (l : System) → harmonics v win l ≡ false → blocked v win l ≡ true → Another v win l
   -- a system whose D is at most P never makes another one blocked: that is blocked or not as with anything else there whose D is at most P
-  pub unloaded : (m : System) → Unloaded v win m → (win' : List ℤ) → AlikeBut m win win' → Unloaded v win' m → (l : System) → Other l m →
+  pub unloaded : (m : System) → Unloaded v win m → (win' : List ℤ) → AlikeBut m win win' → Unloaded v win' m → (l : System) → l ≢ m →
       blocked v win l ≡ blocked v win' l
 
 -- for every setting and window
