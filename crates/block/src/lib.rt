@@ -5,6 +5,7 @@ ghost use Prim.Native.Nat.{_+_, _≤_, _<_, _%_};
 ghost use lib.ListN.{length, take};
 ghost use Rattle.block.specs.Bytes.{u16At, u32At, signed as signedOf, i16At, bytes16, bytes32, bits as bitsOf, zeros as zerosOf, ByteOf};
 ghost use Rattle.block.specs.Block.{sumsOf, checked as checkedOf, sealed, bufferWith};
+ghost use Rattle.block.specs.Columns.{columnSums};
 
 // The two sums of the check.
 pub struct Sums {
@@ -24,23 +25,64 @@ fn wider(x: u8) -> u32
     x as u32
 }
 
-// The sums of at most 510 bytes, which stay small enough for the remainders to be taken once, at the end.
-fn check_sums(s: &[u8]) -> Sums
-    requires { ⌜ length (now s) ≤ 510 ⌝ }
-    ensures { λ r. ⌜ r ≡ sumsOf (now (s .entry)) ⌝ }
+// The 510 bytes under the check as 15 rows of 34: the sum of each column, and the sum of what that sum was before each row.
+struct Columns {
+    sums: [u16; 34],
+    rows: [u16; 34],
+}
+
+// The columns are added up side by side, no byte waiting for the one before: the compiler takes many at a time.
+fn by_columns(s: &[u8]) -> Columns
+    requires { ⌜ length (now s) ≡ 510 ⌝ }
+    ensures { λ r. ⌜ columnSums r ≡ sumsOf (now (s .entry)) ⌝ }
 {
+    let mut sums = [0u16; 34];
+    let mut rows = [0u16; 34];
+    let mut start: usize = 0;
+    while start < 510 {
+        let mut j: usize = 0;
+        while j < 34 {
+            let i = start + j;
+            let c = sums[j];
+            rows[j] = rows[j] + c;
+            sums[j] = c + wide(s[i]);
+            j += 1;
+        }
+        start += 34;
+    }
+    Columns {
+        sums: sums,
+        rows: rows,
+    }
+}
+
+// The check's sums from those of the columns: a byte is in b 34 times for each row after its own, and once for each column from its own on.
+// Both stay small enough for the remainders to be taken once, at the end.
+fn add_up(c: Columns) -> Sums
+    ensures { λ r. ⌜ r ≡ columnSums c ⌝ }
+{
+    let sums = c.sums;
+    let rows = c.rows;
     let mut a: u32 = 0;
     let mut b: u32 = 0;
-    let mut i: usize = 0;
-    while i < s.len() {
-        a += wider(s[i]);
-        b += a;
-        i += 1;
+    let mut j: usize = 0;
+    while j < 34 {
+        a += sums[j] as u32;
+        b += a + 34 * (rows[j] as u32);
+        j += 1;
     }
     Sums {
         a: (a % 255) as u8,
         b: (b % 255) as u8,
     }
+}
+
+// The sums of the 510 bytes of a block that are under its check.
+fn check_sums(s: &[u8]) -> Sums
+    requires { ⌜ length (now s) ≡ 510 ⌝ }
+    ensures { λ r. ⌜ r ≡ sumsOf (now (s .entry)) ⌝ }
+{
+    add_up(by_columns(s))
 }
 
 // Whether the last two bytes of a block are its check.

@@ -3,10 +3,9 @@ use borrow.Author.Needs.{needs}
 use borrow.Author.Tests.{eq-eqb, ne-eqb}
 use mathlib.Core.Path.{_≡_, sym}
 use native.Mathlib.Omega.{arith}
-use lib.ListN.{take}
+use lib.ListN.{take, length-take}
 use lib.Seq.{length-take-le}
 use Rattle.block.specs.Block.{sumsOf}
-use Rattle.lists.proofs.Runs.{take-short}
 use Rattle.block.proofs.checked.Statement.{statement}
 use Rattle.block.proofs.checked.Tie as tie
 
@@ -14,7 +13,7 @@ slice-aggregate-check-sums : tie.Need-slice-aggregate-check-sums
 slice-aggregate-check-sums c = sym (length-take-le _ (c .before .before .args .s .now) (omega arith))
 
 check-sums-requires : tie.Need-check-sums-requires
-check-sums-requires c κs = take-short 510 (c .before .before .args .s .now)
+check-sums-requires c κs = simp length-take (omega arith)
 
 shared-slice-read-if1 : tie.Need-shared-slice-read-if1
 shared-slice-read-if1 c = search needs

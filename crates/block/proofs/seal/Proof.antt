@@ -3,10 +3,9 @@ use borrow.Author.Needs.{needs}
 use mathlib.Core.Path.{_≡_, sym, _∙_}
 use mathlib.Core.List.{[], _∷_, append-nil}
 use native.Mathlib.Omega.{arith}
-use lib.ListN.{length, take, drop-of-length-le}
+use lib.ListN.{length, take, length-take, drop-of-length-le}
 use lib.Seq.{length-take-le, sets-eq}
 use Rattle.block.specs.Block.{sumsOf}
-use Rattle.lists.proofs.Runs.{take-short}
 use Rattle.block.proofs.seal.Statement.{statement}
 use Rattle.block.proofs.seal.Tie as tie
 
@@ -19,7 +18,7 @@ slice-aggregate-check-sums c =
     sym (length-take-le _ (c .before .args .t1) (omega arith))
 
 check-sums-requires : tie.Need-check-sums-requires
-check-sums-requires c κs = take-short 510 (c .before .args .t1)
+check-sums-requires c κs = let h : length (c .before .args .t1) ≡ 512 = search needs in simp length-take (omega arith)
 
 array-write-t : tie.Need-array-write-t
 array-write-t c = search needs
