@@ -9,11 +9,10 @@ use lib.Dec.{T, leb, eqb}
 use borrow.Author.Tests.{leb-true, eqb-true, ne-eqb}
 use lib.IntN.{ℤ}
 use lib.ListN.{getD}
-use Rattle.lists.specs.Tests.{Each}
 use Rattle.lists.proofs.TestLaws.{split, is-true}
 use Rattle.refusal.specs.declared.Verdict.{Verdict}
 use Rattle.refusal.specs.Refusals.{Told, Outcome, gives, declines, byOutcome, _when_, firstOf, firstRefusal, done, outcomeOf}
-use Rattle.refusal.proofs.Stops.{Passed, Stops, Stopped, stops-declines, passed-gives, none-gives, stopped}
+use Rattle.refusal.proofs.Stops.{Stops, Stopped, stops-declines, firstOf-values, none-gives, stopped}
 use Rattle.setting.specs.declared.Setting.{Setting}
 use Rattle.state.specs.declared.Window.{Window}
 use Rattle.relay.specs.declared.Relay.{Relay}
@@ -38,16 +37,10 @@ start-accepted {v} s e =
 
 -- ---- any record
 
-module _ (r : Relay) (xs : List ℤ) {s : Sampled} where
-  pub declined : {n : Told} → Stops (sampleRows r xs) n → Gives (declines n) (leftAt r n) s → Samples r xs s
-  declined {n} p g =
-      let o : sampleReply r xs ≡ declines n = stops-declines p _ in
-      record { reply = rw o (g .reply); relay = rw o (g .relay) }
-
-  pub taken : Each Passed (sampleRows r xs) → (w : Window) → w ≡ windowAfter r xs → Gives (gives (replyNow r w)) (relayNow r w) s → Samples r xs s
-  taken p w e g =
-      let o : sampleReply r xs ≡ gives (replyNow r (windowAfter r xs)) = passed-gives p _ in
-      record { reply = rw (o, ← e) (g .reply); relay = rw (o, ← e) (g .relay) }
+pub declined : (r : Relay) (xs : List ℤ) {s : Sampled} {n : Told} → Stops (sampleRows r xs) n → Gives (declines n) (leftAt r n) s → Samples r xs s
+declined r xs {n = n} p g =
+    let o : sampleReply r xs ≡ declines n = stops-declines p _ in
+    record { reply = rw o (g .reply); relay = rw o (g .relay) }
 
 -- ---- an admissible record of the setting v
 
@@ -78,6 +71,24 @@ module _ (v : Setting) (r : Relay) (xs : List ℤ) (adm : admissible r ≡ true)
   sample-declines e =
       let d : Stopped (setRows v xs) = stopped (setRows v xs) e in
       record { told = d .told; is = sample-reply ∙ stops-declines (d .stops) _; among = d .among ofSet tt }
+
+  -- a set that was declined, as the call answers it
+  pub sample-told : {n : Told} → firstRefusal (setRows v xs) ≡ declines n → sampleReply r xs ≡ declines n
+  sample-told e = sample-reply ∙ firstOf-values (tt {0}) (replyNow r (windowAfter r xs)) (setRows v xs) ∙ rw e
+
+  pub set-declined : {n : Told} {s : Sampled} → firstRefusal (setRows v xs) ≡ declines n → Gives (declines n) (refusedRelay r) s → Samples r xs s
+  set-declined {s = s} e g = by (accepted v xs) refl
+    where
+      by : (b : Bool) → accepted v xs ≡ b → Samples r xs s
+      by true p =
+          let q : firstRefusal (setRows v xs) ≡ done = none-gives (setRows v xs) (rw p tt) tt in
+          let z : _≡_ {A = ℕ} 0 1 = cc in
+          absurd (omega arith)
+      by false p = let o = sample-declines p in record { reply = rw (sample-told e) (g .reply); relay = rw (o .is, other-leaves o r) (g .relay) }
+
+  -- and one that was accepted, filed in the window w
+  pub set-taken : {s : Sampled} → accepted v xs ≡ true → (w : Window) → w ≡ windowAfter r xs → Gives (gives (replyNow r w)) (relayNow r w) s → Samples r xs s
+  set-taken t w e g = let o = sample-gives t in record { reply = rw (o, ← e) (g .reply); relay = rw (o, ← e) (g .relay) }
 
 -- a write that resets is one to byte 7
 pub resets-at : (o x : ℕ) → resets o x ≡ true → o ≡ 7

@@ -124,6 +124,3 @@ valid-after h c = valid-step h (step h c)
 -- after a sample call
 pub kept : (r : Relay) (xs : List ℤ) → admissible r ≡ true → admissible (sampleRelay r xs) ≡ true
 kept r xs a = valid-after (record { ok = a; same = refl }) (sample xs) .ok
-
-pub setting-kept : (r : Relay) (xs : List ℤ) → admissible r ≡ true → sampleRelay r xs .setting ≡ r .setting
-setting-kept r xs a = valid-after (record { ok = a; same = refl }) (sample xs) .same

@@ -6,7 +6,7 @@ use mathlib.Core.List.{List}
 use Prim.Native.Nat.{ℕ, _+_, _*_, _/_, _%_, _≤_}
 use native.Mathlib.Omega.{arith}
 use lib.Dec.{T, leb, ltb, leb→le}
-use borrow.Author.Tests.{ltb-true}
+use borrow.Author.Tests.{ltb-true, eqb-true}
 use lib.IntN.{ℤ, pos, natAbs}
 use lib.ListN.{length}
 use Rattle.integer.specs.Within.{_within_}
@@ -14,7 +14,7 @@ use Rattle.lists.specs.Tests.{Each}
 use Rattle.integer.proofs.Reading.{ints}
 use Rattle.integer.proofs.Laws.{within-≤}
 use Rattle.lists.proofs.Places.{upTo-each}
-use Rattle.lists.proofs.TestLaws.{not-not, each-get, test-each}
+use Rattle.lists.proofs.TestLaws.{not-not, is-true, each-get, test-each}
 use Rattle.refusal.proofs.Stops.{none-of}
 use Rattle.setting.specs.declared.Setting.{Setting}
 use Rattle.setting.specs.Values.{startable}
@@ -28,8 +28,8 @@ use Rattle.state.specs.declared.Window.{Window}
 use Rattle.state.proofs.Placed.{Sized, zero-sized, numbers-sized, windowWith-sized}
 use Rattle.relay.specs.declared.Relay.{Relay}
 use Rattle.relay.specs.Record.{admissible}
-use Rattle.relay.specs.Calls.{inReach, setRows, accepted, windowAfter}
-use Rattle.relay.proofs.Admission.{is-T, admitted}
+use Rattle.relay.specs.Calls.{twelve, inReach, setRows, accepted, windowAfter}
+use Rattle.relay.proofs.Admission.{admitted}
 use Rattle.matching.proofs.Total.{matched-bound}
 use Rattle.page.specs.PageInput.{Held}
 use Rattle.page.proofs.HeldLaws.{measurable}
@@ -47,9 +47,17 @@ module _ (v : Setting) (xs : List ℤ) where
       by e sysB = each-get e zero-within (3 * z + 1)
       by e sysC = each-get e zero-within (3 * z + 2)
 
-  pub reach : T (accepted v xs) → InReach v xs
-  unfolding setRows
-  reach t = reach-of (not-not (inReach xs) (none-of (setRows v xs) t 10))
+  module _ (t : T (accepted v xs)) where
+    pub reach : InReach v xs
+    unfolding setRows
+    reach = reach-of (not-not (inReach xs) (none-of (setRows v xs) t 10))
+
+    long : length xs ≡ 12
+    unfolding setRows
+    long = eqb-true (length xs) 12 (is-true (not-not (twelve xs) (none-of (setRows v xs) t 14)))
+
+    pub numbers-ready : T (startable v) → (ks : List ℤ) → ks ≡ fourFactors v → SetInput v ks xs
+    numbers-ready s ks e = record { sound = s; factors = e; twelve = long; reach = reach }
 
   sized-of : T (startable v) → InReach v xs → Each Sized (numbers v xs)
   unfolding numbers MatchedBound
@@ -74,9 +82,5 @@ module _ (r : Relay) (xs : List ℤ) (a : admissible r ≡ true) where
   pub window-sized : InReach (r .setting) xs → Each Sized (windowAfter r xs .values)
   window-sized h = windowWith-sized (r .window) (numbers (r .setting) xs) (numbers-sized (admitted r a 2)) (sized-of (r .setting) xs (admitted r a 0) h)
 
-  module _ (l : length xs ≡ 12) (i : inReach xs ≡ true) where
-    pub numbers-ready : (ks : List ℤ) → ks ≡ fourFactors (r .setting) → SetInput (r .setting) ks xs
-    numbers-ready ks e = record { sound = admitted r a 0; factors = e; twelve = l; reach = reach-of (r .setting) xs (is-T i) }
-
-    pub measure-ready : (w : Window) → w ≡ windowAfter r xs → length (w .values) ≡ 144 → Measurable (r .setting) (w .values)
-    measure-ready w e long = measurable (r .setting) (admitted r a 0) (w .values) long (rw e (window-sized (reach-of (r .setting) xs (is-T i))))
+  pub measure-ready : T (accepted (r .setting) xs) → (w : Window) → w ≡ windowAfter r xs → length (w .values) ≡ 144 → Measurable (r .setting) (w .values)
+  measure-ready t w e long = measurable (r .setting) (admitted r a 0) (w .values) long (rw e (window-sized (reach (r .setting) xs t)))

@@ -4,10 +4,10 @@ use mathlib.Core.Bool.{true, false}
 use Prim.Native.Nat.{ℕ}
 use Rattle.bits.specs.declared.Bits.{Bits}
 use Rattle.refusal.specs.Refusals.{Outcome, gives}
-use Rattle.characteristic.specs.Characteristic.{counts}
 use Rattle.measuring.specs.declared.Readings.{Readings}
 use Rattle.measuring.specs.Measuring.{readingOf, readingsOf}
 use Rattle.state.specs.declared.Element.{Element}
+use Rattle.state.specs.declared.Trip.{Trip}
 use Rattle.state.specs.declared.Window.{Window}
 use Rattle.relay.specs.declared.Relay.{Relay}
 use Rattle.state.specs.State.{elementAfter, latchesOf, full}
@@ -17,7 +17,8 @@ use Rattle.page.specs.Events.{newFlags, raised}
 use Rattle.page.specs.Page.{startsOf}
 use Rattle.page.proofs.EventLaws.{no-bit, not-new, raised-none}
 use Rattle.relay.specs.Record.{admissible}
-use Rattle.relay.specs.Calls.{Reply, filling, measured, startsBy, flagsNow, eventsNow, replyNow, relayNow}
+use Rattle.relay.specs.Calls.{Reply, filling, measured, tripNow, startsBy, flagsNow, eventsNow, replyNow, relayNow}
+use Rattle.relay.specs.CallInput.{tripAfter}
 use Rattle.relay.proofs.Admission.{admitted}
 
 module _ (r : Relay) (w : Window) where
@@ -45,22 +46,23 @@ module _ (r : Relay) (w : Window) where
   unfolding relayNow
   filling-relay e adm p q s = rw (filling-events e adm, p, q, s, e)
 
-  module _ (full-now : full w ≡ true) {m : Readings} (e : m ≡ readingsOf (r .setting) (w .values)) {a b c : Element}
-      (p : a ≡ elementAfter (r .setting .confirm) (counts (r .setting) (m .a .d) (m .a .start) (m .a .blocked)) (r .trip .a))
-      (q : b ≡ elementAfter (r .setting .confirm) (counts (r .setting) (m .b .d) (m .b .start) (m .b .blocked)) (r .trip .b))
-      (s : c ≡ elementAfter (r .setting .confirm) (counts (r .setting) (m .c .d) (m .c .start) (m .c .blocked)) (r .trip .c)) where
+  module _ (full-now : full w ≡ true) {m : Readings} (e : m ≡ readingsOf (r .setting) (w .values)) {t : Trip} (p : t ≡ tripAfter (r .setting) m (r .trip)) where
+    pub measured-trip : t ≡ tripNow r w
+    unfolding readingsOf readingOf
+    measured-trip = rw (p, e, full-now)
+
     pub measured-reply :
         _≡_ {A = Outcome Reply}
         (gives
         (measured
-        (record { reading = m .a; latched = a .latch })
-        (record { reading = m .b; latched = b .latch })
-        (record { reading = m .c; latched = c .latch })))
+        (record { reading = m .a; latched = t .a .latch })
+        (record { reading = m .b; latched = t .b .latch })
+        (record { reading = m .c; latched = t .c .latch })))
         (gives (replyNow r w))
     unfolding replyNow readingsOf readingOf
-    measured-reply = rw (p, q, s, e, full-now)
+    measured-reply = rw (measured-trip, e, full-now)
 
-    pub measured-relay : {n : Events} → n ≡ raised (newFlags (startsBy r (r .window)) (startsOf m) (latchesOf (r .trip)) (latchesOf (record { a = a; b = b; c = c }))) (r .events) →
-        _≡_ {A = Relay} (record { setting = r .setting; window = w; trip = record { a = a; b = b; c = c }; events = n }) (relayNow r w)
+    pub measured-relay : {n : Events} → n ≡ raised (newFlags (startsBy r (r .window)) (startsOf m) (latchesOf (r .trip)) (latchesOf t)) (r .events) →
+        _≡_ {A = Relay} (record { setting = r .setting; window = w; trip = t; events = n }) (relayNow r w)
     unfolding relayNow readingsOf readingOf
-    measured-relay n = rw (n, p, q, s, e, full-now)
+    measured-relay n = rw (n, measured-trip, e, full-now)

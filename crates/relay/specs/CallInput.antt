@@ -1,20 +1,17 @@
--- What the code of the calls takes.
+-- What the code of the calls takes, and the counters and latches that it makes of what is measured.
 use mathlib.Core.Path.{_≡_}
 use mathlib.Core.Bool.{true, false}
-use mathlib.Core.List.{List}
-use lib.IntN.{ℤ}
 use Rattle.setting.specs.declared.Setting.{Setting}
-use Rattle.setting.specs.Limits.{fourFactors}
+use Rattle.characteristic.specs.Characteristic.{counts}
+use Rattle.measuring.specs.declared.Reading.{Reading}
+use Rattle.measuring.specs.declared.Readings.{Readings}
 use Rattle.measuring.specs.WindowInput.{Measurable}
+use Rattle.state.specs.declared.Element.{Element}
+use Rattle.state.specs.declared.Trip.{Trip}
 use Rattle.state.specs.declared.Window.{Window}
-use Rattle.state.specs.State.{full}
+use Rattle.state.specs.State.{elementAfter, full}
 use Rattle.relay.specs.declared.Relay.{Relay}
 use Rattle.relay.specs.Record.{admissible}
-
--- an admissible record, with its factors at hand: what the rest of the call takes once 12 is passed
-pub record InHand (r : Relay) (factors : List ℤ) : Type 0 where
-  pub admitted : admissible r ≡ true
-  pub known : factors ≡ fourFactors (r .setting)
 
 -- a window that holds twelve, and can be measured
 pub record Full (v : Setting) (w : Window) : Type 0 where
@@ -29,3 +26,10 @@ pub record FullNow (r : Relay) (w : Window) : Type 0 where
 pub record FillingNow (r : Relay) (w : Window) : Type 0 where
   pub admitted : admissible r ≡ true
   pub unfilled : full w ≡ false
+
+-- the counter and the latch of a system that was measured so, and those of the three
+abbrev pub elementBy : Setting → Reading → Element → Element
+elementBy v m e = elementAfter (v .confirm) (counts v (m .d) (m .start) (m .blocked)) e
+
+abbrev pub tripAfter : Setting → Readings → Trip → Trip
+tripAfter v m t = record { a = elementBy v (m .a) (t .a); b = elementBy v (m .b) (t .b); c = elementBy v (m .c) (t .c) }

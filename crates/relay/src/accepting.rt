@@ -6,9 +6,13 @@ ghost use lib.IntN.{pos};
 ghost use lib.ListN.{drop};
 ghost use Rattle.lists.specs.Tests.{each};
 ghost use Rattle.integer.specs.Within.{eqZ};
+ghost use Rattle.refusal.specs.Refusals.{outcomeOf, firstRefusal};
 ghost use Rattle.relay.specs.Record.{admissible as admissibleOf};
-ghost use Rattle.relay.specs.Calls.{inReach};
+ghost use Rattle.relay.specs.Calls.{inReach, setRows};
 use crate::Relay;
+use refusal::Refusal;
+use refusal::Verdict;
+use setting::Setting;
 
 // Whether a record is one that the calls take: refusal 12.
 pub fn admissible(r: Relay) -> bool
@@ -64,4 +68,20 @@ pub fn unused_zero(ends: u8, set: &[i16]) -> bool
         i += 1;
     }
     true
+}
+
+// Whether a set is accepted on a setting: 14, 10, 11, in this order.
+pub fn set_verdict(v: Setting, set: &[i16]) -> Verdict
+    ensures { λ r. ⌜ outcomeOf r ≡ firstRefusal (setRows v (now (set .entry))) ⌝ }
+{
+    if set.len() != 12 {
+        return Verdict::Refused(Refusal::Count);
+    }
+    if !in_reach(set) {
+        return Verdict::Refused(Refusal::Reach);
+    }
+    if !unused_zero(v.ends, set) {
+        return Verdict::Refused(Refusal::Unused);
+    }
+    Verdict::Accepted
 }

@@ -4,10 +4,8 @@ ghost use mathlib.Core.Path.{_≡_};
 ghost use mathlib.Core.Bool.{cond};
 ghost use Rattle.refusal.specs.declared.Verdict.the-variants.{Refused};
 ghost use Rattle.refusal.specs.Refusals.{gives, declines, toldOf};
-ghost use Rattle.characteristic.specs.Characteristic.{counts as countsOf};
-ghost use Rattle.state.specs.State.{elementAfter};
 ghost use Rattle.relay.specs.Calls.{replyNow, relayNow, refusedRelay, cleared as clearedOf, Gives, Samples, Resets, Starts};
-ghost use Rattle.relay.specs.CallInput.{FillingNow, FullNow, InHand};
+ghost use Rattle.relay.specs.CallInput.{elementBy, tripAfter, FillingNow, FullNow};
 use crate::Answer;
 use crate::Measure;
 use crate::Relay;
@@ -17,23 +15,36 @@ use crate::accepting;
 use crate::starting;
 use bits::Bits;
 use measuring::Reading;
+use measuring::Readings;
 use page::Events;
 use refusal::Refusal;
 use refusal::Verdict;
 use setting::Setting;
+use setting::factors;
 use state::Element;
 use state::Trip;
 use state::Window;
 
 // The counter and the latch of a system after it was measured.
 fn element_now(v: Setting, m: Reading, e: Element) -> Element
-    ensures { λ r. ⌜ r ≡ elementAfter (v .confirm) (countsOf v (m .d) (m .start) (m .blocked)) e ⌝ }
+    ensures { λ r. ⌜ r ≡ elementBy v m e ⌝ }
 {
     state::element_after(
         v.confirm,
         characteristic::counts(v, m.d, m.start, m.blocked),
         e,
     )
+}
+
+// Those of the three systems, after a full window was measured.
+pub fn trip_after(v: Setting, m: Readings, t: Trip) -> Trip
+    ensures { λ r. ⌜ r ≡ tripAfter v m t ⌝ }
+{
+    Trip {
+        a: element_now(v, m.a, t.a),
+        b: element_now(v, m.b, t.b),
+        c: element_now(v, m.c, t.c),
+    }
 }
 
 // The record with a set filed: the window with it, counters and latches after it, and the events.
@@ -76,25 +87,22 @@ fn measured(r: Relay, w: Window) -> Sampled
     let t = r.trip;
     let values = w.values;
     let m = measuring::measure(v, &values);
+    let trip = trip_after(v, m, t);
+    let events = page::noting::events_after(v, r.window, t, r.events, m, trip);
     let in_a = m.a;
     let in_b = m.b;
     let in_c = m.c;
-    let a = element_now(v, in_a, t.a);
-    let b = element_now(v, in_b, t.b);
-    let c = element_now(v, in_c, t.c);
-    let trip = Trip { a: a, b: b, c: c };
-    let events = page::noting::events_after(v, r.window, t, r.events, m, trip);
     let of_a = Measure {
         reading: in_a,
-        latched: a.latch,
+        latched: trip.a.latch,
     };
     let of_b = Measure {
         reading: in_b,
-        latched: b.latch,
+        latched: trip.b.latch,
     };
     let of_c = Measure {
         reading: in_c,
-        latched: c.latch,
+        latched: trip.c.latch,
     };
     Sampled {
         answer: Answer::Measured(of_a, of_b, of_c),
@@ -126,29 +134,6 @@ fn refused(r: Relay, why: Refusal, set: bool) -> Sampled
     }
 }
 
-// What the sample call does with a record that is admissible, given its factors: for a caller that holds such a record and gives it set after set.
-pub fn sample_admitted(r: Relay, factors: [i64; 4], set: &[i16]) -> Sampled
-    requires { ⌜ InHand r factors ⌝ }
-    ensures { λ s. ⌜ Samples r (now (set .entry)) s ⌝ }
-{
-    if set.len() != 12 {
-        return refused(r, Refusal::Count, true);
-    }
-    if !accepting::in_reach(set) {
-        return refused(r, Refusal::Reach, true);
-    }
-    let v = r.setting;
-    if !accepting::unused_zero(v.ends, set) {
-        return refused(r, Refusal::Unused, true);
-    }
-    let old = r.window;
-    let w = state::place(old, matching::numbers(v, factors, set));
-    if w.fill < 12 {
-        return filling(r, w);
-    }
-    measured(r, w)
-}
-
 // A refusal of a reset or a write, with the record as before.
 pub fn declined(r: Relay, why: Refusal) -> Returned
     ensures { λ s. ⌜ s ≡ record { verdict = Refused why; relay = r } ⌝ }
@@ -163,15 +148,7 @@ pub fn declined(r: Relay, why: Refusal) -> Returned
 pub fn cleared(r: Relay) -> Relay
     ensures { λ s. ⌜ s ≡ clearedOf r ⌝ }
 {
-    let clear = Element {
-        count: 0,
-        latch: false,
-    };
-    let trip = Trip {
-        a: clear,
-        b: clear,
-        c: clear,
-    };
+    let trip = starting::untripped();
     let mut done = r;
     done.trip = trip;
     done
@@ -197,7 +174,15 @@ impl Relay {
             return refused(self, Refusal::Record, false);
         }
         let v = self.setting;
-        sample_admitted(self, setting::factors::factors(v), set)
+        if let Verdict::Refused(why) = accepting::set_verdict(v, set) {
+            return refused(self, why, true);
+        }
+        let old = self.window;
+        let w = state::place(old, matching::numbers(v, factors::factors(v), set));
+        if w.fill < 12 {
+            return filling(self, w);
+        }
+        measured(self, w)
     }
 
     // Clears counters and latches, and not the window: 12.

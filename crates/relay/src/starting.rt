@@ -2,6 +2,7 @@
 
 ghost use mathlib.Core.Path.{_≡_};
 ghost use Rattle.refusal.specs.Refusals.{byOutcome, outcomeOf};
+ghost use Rattle.state.specs.State.{perSystem, clear};
 ghost use Rattle.relay.specs.Record.{fresh as freshOf};
 ghost use Rattle.relay.specs.Calls.{blank as blankOf};
 use crate::Relay;
@@ -56,23 +57,30 @@ pub fn started_on(v: Setting, verdict: Verdict) -> Setting
     }
 }
 
-// A fresh relay of setting values.
-pub fn fresh(v: Setting) -> Relay
-    ensures { λ r. ⌜ r ≡ freshOf v ⌝ }
+// Counters and latches that are clear.
+pub fn untripped() -> Trip
+    ensures { λ r. ⌜ r ≡ perSystem (λ l. clear) ⌝ }
 {
     let clear = Element {
         count: 0,
         latch: false,
     };
+    Trip {
+        a: clear,
+        b: clear,
+        c: clear,
+    }
+}
+
+// A fresh relay of setting values.
+pub fn fresh(v: Setting) -> Relay
+    ensures { λ r. ⌜ r ≡ freshOf v ⌝ }
+{
     let window = Window {
         values: [0i32; 144],
         fill: 0,
     };
-    let trip = Trip {
-        a: clear,
-        b: clear,
-        c: clear,
-    };
+    let trip = untripped();
     let events = Events { flags: 0, mask: 0 };
     Relay {
         setting: v,

@@ -14,9 +14,9 @@ use mir.Val.{toZ, ofZ}
 use Rattle.integer.proofs.Machine.{back-ok}
 
 -- one store of the loop that copies ns into values from a place on
-pub put-more : (values t ns : List ℤ) (at k : ℕ) → length values ≡ 144 → length ns ≡ 12 → at ≤ 132 → k < 12 → mag (getD ns k (pos 0)) < 2 ^ 31
+pub put-more : (values t ns : List ℤ) (at k : ℕ) → at + 12 ≤ length values → length ns ≡ 12 → k < 12 → mag (getD ns k (pos 0)) < 2 ^ 31
     → t ≡ paste values at ns k → set t (at + k) (toZ w32 (ofZ w32 (getD ns k (pos 0)))) ≡ paste values at ns (k + 1)
-put-more values t ns at k lw lv ha hk s e =
+put-more values t ns at k room lv hk s e =
     ap (λ (z : ℤ). set t (at + k) z) (back-ok w32 (getD ns k (pos 0)) s)
     ∙ ap (λ (l : List ℤ). set l (at + k) (getD ns k (pos 0))) e
     ∙ paste-suc values at ns k (pos 0) (omega arith) (omega arith)

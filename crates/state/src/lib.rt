@@ -4,7 +4,7 @@ ghost use mathlib.Core.Path.{_≡_};
 ghost use mathlib.Core.Bool.{true};
 ghost use mathlib.Core.List.{_++_};
 ghost use Prim.Native.Nat.{_+_, _≤_};
-ghost use lib.ListN.{take, drop};
+ghost use lib.ListN.{length, take, drop};
 ghost use Rattle.lists.specs.Tests.{each, hold};
 ghost use Rattle.state.specs.State.{numberWithin, countersWithin, Files, counterAfter, elementAfter, latchesOf, latchSum};
 ghost use Rattle.state.specs.Rows.{LatchedInARow, CountedInARow};
@@ -74,20 +74,18 @@ fn shifted(values: [i32; 144]) -> [i32; 144]
     t
 }
 
-// The numbers with twelve put at a place.
-fn put(values: [i32; 144], at: usize, ns: [i32; 12]) -> [i32; 144]
-    requires { ⌜ at ≤ 132 ⌝ }
-    ensures { λ r. ⌜ r ≡ take at values ++ (ns ++ drop (at + 12) values) ⌝ }
+// Twelve numbers put at a place.
+pub fn put(values: &mut [i32], at: usize, ns: [i32; 12])
+    requires { ⌜ at + 12 ≤ length (now values) ⌝ }
+    ensures { λ _. ⌜ now (values .exit) ≡ take at (now (values .entry)) ++ (ns ++ drop (at + 12) (now (values .entry))) ⌝ }
 {
-    let mut t = values;
     let mut k: usize = 0;
     while k < 12 {
         let i = at + k;
         let x = ns[k];
-        t[i] = x;
+        values[i] = x;
         k += 1;
     }
-    t
 }
 
 // The window with a set's numbers filed: after those held, or at the end once the oldest has gone.
@@ -98,13 +96,15 @@ pub fn place(w: Window, ns: [i32; 12]) -> Window
     let fill = w.fill;
     let old = w.values;
     if fill < 12 {
-        let values = put(old, 12 * (fill as usize), ns);
+        let mut values = old;
+        put(&mut values, 12 * (fill as usize), ns);
         return Window {
             values: values,
             fill: fill + 1,
         };
     }
-    let values = put(shifted(old), 132, ns);
+    let mut values = shifted(old);
+    put(&mut values, 132, ns);
     Window {
         values: values,
         fill: 12,

@@ -13,18 +13,12 @@ slice-aggregate-measure c = search needs
 measure-requires : tie.Need-measure-requires
 measure-requires c κs = search needs
 
-element-now-requires : tie.Need-element-now-requires
-element-now-requires c κs = search needs
-
-element-now-requires-2 : tie.Need-element-now-requires-2
-element-now-requires-2 c κs = search needs
-
-element-now-requires-3 : tie.Need-element-now-requires-3
-element-now-requires-3 c κs = search needs
+trip-after-requires : tie.Need-trip-after-requires
+trip-after-requires c κs = search needs
 
 events-after-requires : tie.Need-events-after-requires
 events-after-requires c κs =
-    let start = c .before .before .before .before .before .before .before .before .before .before .before in
+    let start = c .before .before .before .before .before .before in
     let a = start .pre .admitted in
     record { held = held (start .args .r) a; events = admitted (start .args .r) a 4 }
 
@@ -33,21 +27,18 @@ filed-requires c κs = search needs
 
 returns : tie.Need-returns
 returns c =
-    let noted = c .before in
+    let noted = c .before .before .before .before in
     let done = noted .before in
-    let start = done .before .before .before .before .before .before .before .before .before .before .before in
-    let m = done .before .before .before .before .before .before .measure .ensures in
-    let a = done .before .before .element-now .ensures in
-    let b = done .before .element-now2 .ensures in
-    let d = done .element-now3 .ensures in
+    let start = done .before .before .before .before .before .before in
+    let m = done .before .measure .ensures in
+    let t = done .trip-after .ensures in
     let full = start .pre .window .full in
     record {
-      reply = measured-reply (start .args .r) (start .args .w) full m a b d;
-      relay = c .filed .ensures ∙ measured-relay (start .args .r) (start .args .w) full m a b d (noted .events-after .ensures);
+      reply = measured-reply (start .args .r) (start .args .w) full m t;
+      relay = c .filed .ensures ∙ measured-relay (start .args .r) (start .args .w) full m t (noted .events-after .ensures);
     }
 
 pub measured-spec : {M : Type 1} → statement M
 measured-spec =
     tie.close
-    (tie.spec slice-aggregate-measure measure-requires element-now-requires element-now-requires-2 element-now-requires-3 events-after-requires
-    filed-requires returns)
+    (tie.spec slice-aggregate-measure measure-requires trip-after-requires events-after-requires filed-requires returns)
