@@ -1,2 +1,3 @@
 -- The sets of a block, one after the other.
+mod Windows
 mod Sets

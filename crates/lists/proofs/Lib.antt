@@ -5,3 +5,4 @@ pub mod Fill
 pub mod Maps
 pub mod Loops
 pub mod Runs
+pub mod Puts
