@@ -13,7 +13,7 @@ use Rattle.integer.proofs.Laws.{ring, within-≤, within-+, within-*, within-se
 use Rattle.lists.proofs.Fill.{place}
 use Rattle.matching.specs.Matching.{Three, three, operation, sum3, lessZero, operated}
 use Rattle.matching.specs.Bank.{ideal}
-use Rattle.matching.specs.MatchingInput.{parts}
+use Rattle.matching.specs.Weights.{own, next, before, parts}
 -- the worked numbers, which are checked before what rests on the definitions
 use Rattle.matching.specs.Numbers as numbers
 
@@ -47,16 +47,7 @@ infixl 7 _·_
 unfoldable pub _·_ : Three → Three → ℤ
 f · x = value (f .p) (f .n) (f .q) (x .p) (x .n) (x .q)
 
--- p, n and q alone
-abbrev pub own : Three
-own = three (pos 1) (pos 0) (pos 0)
-
-abbrev pub next : Three
-next = three (pos 0) (pos 1) (pos 0)
-
-abbrev pub before : Three
-before = three (pos 0) (pos 0) (pos 1)
-
+-- its coefficients, by its values
 abbrev pub formOf : (Three → ℤ) → Three
 formOf t = three (t own) (t next) (t before)
 

@@ -4,5 +4,6 @@ mod Forms
 mod Rows
 mod Parts
 mod OneEnd
+mod Weighing
 pub mod Total
 pub mod Negated

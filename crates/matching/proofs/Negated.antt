@@ -18,7 +18,7 @@ use Rattle.setting.specs.Values.{endOf, factor, startable}
 use Rattle.setting.proofs.LimitLaws.{startable-is}
 use Rattle.matching.specs.Matching.{Three, three, even, operated, matched}
 use Rattle.matching.specs.Sets.{System, sysA, sysB, sysC, system, seen, phases, filtered, matchedAt, placeOf, numbers}
-use Rattle.matching.specs.MatchingInput.{parts}
+use Rattle.matching.specs.Weights.{parts}
 use Rattle.matching.proofs.Forms.{_·_, linear-parts}
 use Rattle.matching.proofs.Rows.{matching}
 use Rattle.matching.proofs.Parts.{matched-in-parts}

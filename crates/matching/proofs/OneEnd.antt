@@ -12,8 +12,9 @@ use Rattle.integer.proofs.Laws.{ring, literals, within-≤, within-+, within-*,
 use Rattle.matching.specs.Matching.{Three, three, even, sum3, operated, matched}
 use Rattle.matching.specs.Sets.{fromNext}
 use Rattle.matching.specs.Bank.{NearIdeal}
-use Rattle.matching.specs.MatchingInput.{MatchedInput, parts}
-use Rattle.matching.proofs.Forms.{_·_, own, next, Linear, linear-p, linear-n, linear-q, linear-form, linear-parts, linear-ideal, ideal-under}
+use Rattle.matching.specs.Weights.{own, next, parts}
+use Rattle.matching.specs.MatchingInput.{MatchedInput}
+use Rattle.matching.proofs.Forms.{_·_, Linear, linear-p, linear-n, linear-q, linear-form, linear-parts, linear-ideal, ideal-under}
 use Rattle.matching.proofs.Rows.{matching, currents, currentsUnder, spread, chain, GroupRow, groupRow}
 use Rattle.matching.proofs.Parts.{matched-near, small-form, parts-within}
 
@@ -96,11 +97,6 @@ reduced : (β N B : ℕ) (m S W y : ℤ) → S ≡ pos (β * 4053) *ℤ W → y 
 reduced β N B m S W y h k = rw (h, k) (simp ints (omega arith))
 
 -- ---- the bounds
-
--- an end, as the next system sees it
-pub fromNext-scaled : {K : ℤ} {g : ℕ} {x : Three} → MatchedInput K g x → MatchedInput K g (fromNext x)
-fromNext-scaled s =
-    let h = s .sampled in record { factor = s .factor; sampled = record { group = h .group; own = h .next; next = h .before; before = h .own } }
 
 module _ {K : ℤ} {g : ℕ} {x : Three} (s : MatchedInput K g x) (f : Bool) where
   -- what K/65,536 multiplies

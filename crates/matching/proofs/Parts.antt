@@ -12,7 +12,8 @@ use Rattle.integer.proofs.Reading.{ints}
 use Rattle.integer.proofs.Laws.{literal-left, within-≤, within-is, times-within}
 use Rattle.integer.proofs.HalfUnit.{nearestAway-near, nearestAway-times}
 use Rattle.matching.specs.Matching.{Three, even, operated, matched}
-use Rattle.matching.specs.MatchingInput.{OperatedInput, parts}
+use Rattle.matching.specs.Weights.{parts}
+use Rattle.matching.specs.MatchingInput.{OperatedInput}
 use Rattle.matching.proofs.Forms.{_·_, linear-parts, form-within}
 use Rattle.matching.proofs.Rows.{matching, groupRow}
 

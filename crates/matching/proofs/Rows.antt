@@ -13,8 +13,9 @@ use Rattle.lists.proofs.TestLaws.{hold-at, every-at, when}
 use Rattle.matching.specs.Matching.{Three, three, operation, even, sum3, operated}
 use Rattle.matching.specs.Sets.{fromNext}
 use Rattle.matching.specs.Bank.{ideal}
-use Rattle.matching.specs.MatchingInput.{OperationInput, parts}
-use Rattle.matching.proofs.Forms.{_·_, own, next, before, formOf, linear-group, size, form-within}
+use Rattle.matching.specs.Weights.{own, next, before, parts}
+use Rattle.matching.specs.MatchingInput.{OperationInput}
+use Rattle.matching.proofs.Forms.{_·_, formOf, linear-group, size, form-within}
 
 -- ---- the two forms of a pair
 

@@ -47,14 +47,6 @@ filtered e = eqb (e .filter) 1
 
 -- ---- the matched numbers of an end for the three systems
 
-unfoldable pub trioOf : (K : ℤ) → End → Three → Trio
-trioOf K e x =
-    record {
-      a = matched K (e .group) (filtered e) (seen sysA x);
-      b = matched K (e .group) (filtered e) (seen sysB x);
-      c = matched K (e .group) (filtered e) (seen sysC x);
-    }
-
 -- v of end z and a system
 unfoldable pub matchedAt : Setting → List ℤ → ℕ → System → ℤ
 matchedAt v xs z l = matched (factor v z) (endOf v z .group) (filtered (endOf v z)) (seen l (phases xs z))

@@ -2,11 +2,11 @@
 
 ghost use mathlib.Core.Path.{_≡_};
 ghost use Prim.Native.Nat.{_<_};
-ghost use Rattle.matching.specs.Matching.{three, even, operation as operationOf, operated as operatedOf, matched as matchedOf};
-ghost use Rattle.matching.specs.Sets.{trioOf, trioAt, numbers as numbersOf};
-ghost use Rattle.matching.specs.MatchingInput.{OperationInput, OperatedInput, MatchedInput, SetInput, parts};
+ghost use Rattle.matching.specs.Matching.{three, even, operation as operationOf, operated as operatedOf};
+ghost use Rattle.matching.specs.Sets.{numbers as numbersOf};
+ghost use Rattle.matching.specs.Weights.{parts, weightsAt, weightsOf, weighed, weighedTrio};
+ghost use Rattle.matching.specs.MatchingInput.{OperationInput, OperatedInput, FactorsInput, WeighedInput, EndInput, SetInput};
 ghost use Rattle.matching.specs.Bank.{TotalBound, MatchedBound};
-use setting::End;
 use setting::Setting;
 
 // The matched numbers of an end for systems 1, 2 and 3.
@@ -14,6 +14,13 @@ pub struct Trio {
     pub a: i32,
     pub b: i32,
     pub c: i32,
+}
+
+// What an end multiplies the samples of the own phase, the next and the one before by.
+pub struct EndWeights {
+    pub own: i64,
+    pub next: i64,
+    pub before: i64,
 }
 
 // The group operation T(g) of the own phase, the next and the one before.
@@ -60,60 +67,91 @@ fn operated(g: u8, filter: bool, p: i64, n: i64, q: i64) -> i64
     u + 1351 * s
 }
 
-// The matched number of a system: K/65,536 times that, to the nearest, rounded once, a half away
-// from zero.
-fn matched(k: i64, g: u8, filter: bool, p: i64, n: i64, q: i64) -> i32
-    requires { ⌜ MatchedInput k g (three p n q) ⌝ }
-    ensures { λ r. ⌜ r ≡ matchedOf k g filter (three p n q) ⌝ }
+// The three weights of end z: K times what the group operation makes of 1 on the own phase, the next
+// and the one before.
+fn weights_at(v: Setting, ks: [i64; 4], z: u8) -> EndWeights
+    requires { ⌜ FactorsInput v ks × (z < 4) ⌝ }
+    ensures { λ r. ⌜ r ≡ weightsAt v z ⌝ }
 {
-    integer::nearest_away(k * operated(g, filter, p, n, q), 65536 * 4053) as i32
-}
-
-// The three matched numbers of an end.
-fn matched_end(k: i64, e: End, a: i16, b: i16, c: i16) -> Trio
-    requires { ⌜ MatchedInput k (e .group) (three a b c) ⌝ }
-    ensures { λ r. ⌜ r ≡ trioOf k e (three a b c) ⌝ }
-{
+    let e = setting::rules::end_of(v, z);
     let g = e.group;
     let filter = e.filter == 1;
-    let x = a as i64;
-    let y = b as i64;
-    let z = c as i64;
-    Trio {
-        a: matched(k, g, filter, x, y, z),
-        b: matched(k, g, filter, y, z, x),
-        c: matched(k, g, filter, z, x, y),
+    let k = ks[z as usize];
+    let own = k * operated(g, filter, 1, 0, 0);
+    let next = k * operated(g, filter, 0, 1, 0);
+    let before = k * operated(g, filter, 0, 0, 1);
+    EndWeights {
+        own: own,
+        next: next,
+        before: before,
     }
 }
 
-// Those of end z in a set, zero where the end is not in use.
-fn matched_at(v: Setting, ks: [i64; 4], z: u8, set: &[i16]) -> Trio
-    requires { ⌜ SetInput v ks (now set) × (z < 4) ⌝ }
-    ensures { λ r. ⌜ r ≡ trioAt v (now (set .entry)) z ⌝ }
+// The weights of the four ends, which depend on the setting alone: those of end z from 3z on.
+pub fn weights(v: Setting, ks: [i64; 4]) -> [i64; 12]
+    requires { ⌜ FactorsInput v ks ⌝ }
+    ensures { λ r. ⌜ r ≡ weightsOf v ⌝ }
 {
-    if z < v.ends {
-        let at = z as usize;
-        let first = 3 * at;
-        return matched_end(
-            ks[at],
-            setting::rules::end_of(v, z),
-            set[first],
-            set[first + 1],
-            set[first + 2],
-        );
+    let z0 = weights_at(v, ks, 0);
+    let z1 = weights_at(v, ks, 1);
+    let z2 = weights_at(v, ks, 2);
+    let z3 = weights_at(v, ks, 3);
+    [
+        z0.own,
+        z0.next,
+        z0.before,
+        z1.own,
+        z1.next,
+        z1.before,
+        z2.own,
+        z2.next,
+        z2.before,
+        z3.own,
+        z3.next,
+        z3.before,
+    ]
+}
+
+// The matched number of a system: its three samples by the weights, to the nearest, rounded once, a
+// half away from zero.
+fn matched(own: i64, next: i64, before: i64, p: i64, n: i64, q: i64) -> i32
+    requires { ⌜ WeighedInput (three own next before) (three p n q) ⌝ }
+    ensures { λ r. ⌜ r ≡ weighed (three own next before) (three p n q) ⌝ }
+{
+    integer::nearest_away(own * p + next * n + before * q, 65536 * 4053) as i32
+}
+
+// The three matched numbers of end z in a set, zero where the end is not in use.
+fn matched_at(ends: u8, w: [i64; 12], z: u8, set: &[i16]) -> Trio
+    requires { ⌜ EndInput ends w z (now set) ⌝ }
+    ensures { λ r. ⌜ r ≡ weighedTrio ends w (now (set .entry)) z ⌝ }
+{
+    if z < ends {
+        let at = 3 * (z as usize);
+        let own = w[at];
+        let next = w[at + 1];
+        let before = w[at + 2];
+        let a = set[at] as i64;
+        let b = set[at + 1] as i64;
+        let c = set[at + 2] as i64;
+        return Trio {
+            a: matched(own, next, before, a, b, c),
+            b: matched(own, next, before, b, c, a),
+            c: matched(own, next, before, c, a, b),
+        };
     }
     Trio { a: 0, b: 0, c: 0 }
 }
 
-// The twelve matched numbers of a set.
-pub fn numbers(v: Setting, ks: [i64; 4], set: &[i16]) -> [i32; 12]
-    requires { ⌜ SetInput v ks (now set) ⌝ }
+// The twelve matched numbers of a set, by the weights of the setting.
+pub fn numbers(v: Setting, ws: [i64; 12], set: &[i16]) -> [i32; 12]
+    requires { ⌜ SetInput v ws (now set) ⌝ }
     ensures { λ r. ⌜ r ≡ numbersOf v (now (set .entry)) ⌝ }
 {
-    let z0 = matched_at(v, ks, 0, set);
-    let z1 = matched_at(v, ks, 1, set);
-    let z2 = matched_at(v, ks, 2, set);
-    let z3 = matched_at(v, ks, 3, set);
+    let z0 = matched_at(v.ends, ws, 0, set);
+    let z1 = matched_at(v.ends, ws, 1, set);
+    let z2 = matched_at(v.ends, ws, 2, set);
+    let z3 = matched_at(v.ends, ws, 3, set);
     [
         z0.a,
         z0.b,

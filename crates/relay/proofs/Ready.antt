@@ -18,10 +18,11 @@ use Rattle.lists.proofs.TestLaws.{not-not, is-true, each-get, test-each}
 use Rattle.refusal.proofs.Stops.{none-of}
 use Rattle.setting.specs.declared.Setting.{Setting}
 use Rattle.setting.specs.Values.{startable}
-use Rattle.setting.specs.Limits.{Limits, fourFactors}
+use Rattle.setting.specs.Limits.{Limits}
 use Rattle.setting.proofs.LimitLaws.{startable-is}
 use Rattle.matching.specs.Sets.{System, sysA, sysB, sysC, seen, phases, matchedAt, numbers, system}
 use Rattle.matching.specs.Bank.{InReach, MatchedBound}
+use Rattle.matching.specs.Weights.{weightsOf}
 use Rattle.matching.specs.MatchingInput.{SetInput}
 use Rattle.measuring.specs.WindowInput.{Measurable}
 use Rattle.state.specs.declared.Window.{Window}
@@ -56,8 +57,8 @@ module _ (v : Setting) (xs : List ℤ) where
     unfolding setRows
     long = eqb-true (length xs) 12 (is-true (not-not (twelve xs) (none-of (setRows v xs) t 14)))
 
-    pub numbers-ready : T (startable v) → (ks : List ℤ) → ks ≡ fourFactors v → SetInput v ks xs
-    numbers-ready s ks e = record { sound = s; factors = e; twelve = long; reach = reach }
+    pub numbers-ready : T (startable v) → (ws : List ℤ) → ws ≡ weightsOf v → SetInput v ws xs
+    numbers-ready s ws e = record { sound = s; weights = e; twelve = long; reach = reach }
 
   sized-of : T (startable v) → InReach v xs → Each Sized (numbers v xs)
   unfolding numbers MatchedBound

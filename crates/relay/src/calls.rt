@@ -178,7 +178,8 @@ impl Relay {
             return refused(self, why, true);
         }
         let old = self.window;
-        let w = state::place(old, matching::numbers(v, factors::factors(v), set));
+        let weights = matching::weights(v, factors::factors(v));
+        let w = state::place(old, matching::numbers(v, weights, set));
         if w.fill < 12 {
             return filling(self, w);
         }

@@ -1,62 +1,72 @@
--- `matching::matched` meets its contract: the definition's quotient in parts of 4053, whose division is the same.
+-- `matching::matched` meets its contract: each product and sum is within a literal bound, and the quotient fits in 32 bits by the half-unit law.
 use borrow.Author.Needs.{needs}
-use mathlib.Core.Path.{_≡_, refl, sym, _∙_}
+use mathlib.Core.Path.{_≡_, refl, _∙_}
 use Prim.Native.Nat.{_*_}
 use lib.Dec.{lit≤}
-use lib.IntN.{ℤ, _*ℤ_}
+use lib.IntN.{_*ℤ_}
 use mir.Syntax.{w32, w64}
 use Rattle.integer.proofs.Laws.{within-≤, within-is}
 use Rattle.integer.proofs.Machine.{back, back-ok}
 use Rattle.integer.proofs.Machine as machine
-use Rattle.matching.specs.Matching.{three, even, operated, matched}
-use Rattle.matching.specs.MatchingInput.{parts}
-use Rattle.matching.proofs.Bits.{kept, Number, given, fits, read, product}
-use Rattle.matching.proofs.Parts.{matched-in-parts, parts-within}
-use Rattle.matching.proofs.OneEnd.{one-size}
+use Rattle.matching.specs.Matching.{three}
+use Rattle.matching.specs.Weights.{weighed}
+use Rattle.matching.proofs.Bits.{kept, Number, given, fits, read, plus, product}
+use Rattle.matching.proofs.Weighing.{weighed-within}
 use Rattle.matching.proofs.matched.Statement.{statement}
 use Rattle.matching.proofs.matched.Tie as tie
 
-operated-requires : tie.Need-operated-requires
-operated-requires c κs = rw (back (c .fits .p), back (c .fits .n), back (c .fits .q)) (c .pre .sampled)
+-- ---- the three products, and their sums
 
--- what K/65,536 multiplies, and K times that
-abbrev m : tie.Start → ℤ
-m c = let a = c .args in parts (operated (even (a .g)) (a .filter) (a .g) (three (a .p) (a .n) (a .q)))
+module _ (c : tie.Start) where
+  u : Number (kept (c .args .own) *ℤ kept (c .args .p)) (c .args .own *ℤ c .args .p) (1048576 * 6031 * 32000)
+  u = product (given (c .pre .weights .own) refl) (given (c .pre .samples .own) refl) refl
 
-top : (c : tie.After-operated) →
-    let b = c .before in Number (kept (b .args .k) *ℤ kept (c .operated .result)) (b .args .k *ℤ m b) (1048576 * (6031 * 32000))
-top c =
-    let b = c .before in
-    product (given (b .pre .factor) refl)
-    (record {
-      is = c .operated .ensures ∙ rw (back (b .fits .p), back (b .fits .n), back (b .fits .q));
-      size = parts-within (b .pre .sampled) (b .args .filter);
-      few = refl;
-    })
-    refl
+  v : Number (kept (c .args .next) *ℤ kept (c .args .n)) (c .args .next *ℤ c .args .n) (1048576 * 6031 * 32000)
+  v = product (given (c .pre .weights .next) refl) (given (c .pre .samples .next) refl) refl
+
+  w : Number (kept (c .args .before) *ℤ kept (c .args .q)) (c .args .before *ℤ c .args .q) (1048576 * 6031 * 32000)
+  w = product (given (c .pre .weights .before) refl) (given (c .pre .samples .before) refl) refl
 
 mul-nearest-away : tie.Need-mul-nearest-away
-mul-nearest-away c = fits (top c)
+mul-nearest-away c = fits (u c)
 
 mul-nearest-away-2 : tie.Need-mul-nearest-away-2
-mul-nearest-away-2 c = search needs
+mul-nearest-away-2 c = fits (v c)
+
+add-nearest-away : tie.Need-add-nearest-away
+add-nearest-away c = fits (plus (u c) (v c) refl)
+
+mul-nearest-away-3 : tie.Need-mul-nearest-away-3
+mul-nearest-away-3 c = fits (w c)
+
+add-nearest-away-2 : tie.Need-add-nearest-away-2
+add-nearest-away-2 c = fits (plus (plus (u c) (v c) refl) (w c) refl)
+
+mul-nearest-away-4 : tie.Need-mul-nearest-away-4
+mul-nearest-away-4 c = search needs
+
+-- ---- the quotient
 
 nearest-away-requires : tie.Need-nearest-away-requires
-nearest-away-requires c κs = record { top = within-is (read (top c)) (within-≤ (top c .size) (lit≤ tt)); some = lit≤ tt; few = lit≤ tt }
+nearest-away-requires c κs =
+    let t = plus (plus (u c) (v c) refl) (w c) refl in
+    record { top = within-is (read t) (within-≤ (t .size) (lit≤ tt)); some = lit≤ tt; few = lit≤ tt }
 
--- v, which fits in 32 bits
-v-is : (c : tie.After-nearest-away) →
-    let a = c .before .before .args in kept (c .nearest-away .result) ≡ matched (a .k) (a .g) (a .filter) (three (a .p) (a .n) (a .q))
-v-is c =
-    let a = c .before .before .args in
-    rw (back-ok w64 (c .nearest-away .result) (c .nearest-away .ok), c .nearest-away .ensures, read (top (c .before)))
-    (sym (matched-in-parts (a .k) (a .g) (a .filter) (three (a .p) (a .n) (a .q))))
+number-is : (c : tie.After-nearest-away) →
+    let a = c .before .args in kept (c .nearest-away .result) ≡ weighed (three (a .own) (a .next) (a .before)) (three (a .p) (a .n) (a .q))
+unfolding weighed
+number-is c =
+    let b = c .before in
+    rw (back-ok w64 (c .nearest-away .result) (c .nearest-away .ok), c .nearest-away .ensures, read (plus (plus (u b) (v b) refl) (w b) refl))
 
 cast-result : tie.Need-cast-result
-cast-result c = let b = c .before .before in machine.fits (within-is (v-is c) (one-size (b .pre) (b .args .filter))) w32 refl
+cast-result c = machine.fits (within-is (number-is c) (weighed-within (c .before .pre))) w32 refl
 
 returns : tie.Need-returns
-returns c = back (cast-result c) ∙ v-is c
+returns c = back (cast-result c) ∙ number-is c
 
 pub matched-spec : {M : Type 1} → statement M
-matched-spec = tie.close (tie.spec operated-requires mul-nearest-away mul-nearest-away-2 nearest-away-requires cast-result returns)
+matched-spec =
+    tie.close
+    (tie.spec mul-nearest-away mul-nearest-away-2 add-nearest-away mul-nearest-away-3 add-nearest-away-2 mul-nearest-away-4 nearest-away-requires
+    cast-result returns)

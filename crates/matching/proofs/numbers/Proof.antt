@@ -1,23 +1,24 @@
--- `matching::numbers` meets its contract: the four trios, one after the other, are the twelve places.
-use borrow.Author.Needs.{needs}
+-- `matching::numbers` meets its contract: the four trios by weights are those of the definition, and one after the other they are the twelve places.
+use lib.Dec.{lit≤}
 use mir.Syntax.{w32}
 use Rattle.lists.specs.Lists.{upTo}
 use Rattle.integer.proofs.Machine.{back-ok}
 use Rattle.matching.specs.Sets.{trioAt, numbers}
+use Rattle.matching.proofs.Weighing.{end-ready, weighed-trio}
 use Rattle.matching.proofs.numbers.Statement.{statement}
 use Rattle.matching.proofs.numbers.Tie as tie
 
 matched-at-requires : tie.Need-matched-at-requires
-matched-at-requires c κs = search needs
+matched-at-requires c κs = end-ready (c .pre) _ (lit≤ tt)
 
 matched-at-requires-2 : tie.Need-matched-at-requires-2
-matched-at-requires-2 c κs = search needs
+matched-at-requires-2 c κs = end-ready (c .before .pre) _ (lit≤ tt)
 
 matched-at-requires-3 : tie.Need-matched-at-requires-3
-matched-at-requires-3 c κs = search needs
+matched-at-requires-3 c κs = end-ready (c .before .before .pre) _ (lit≤ tt)
 
 matched-at-requires-4 : tie.Need-matched-at-requires-4
-matched-at-requires-4 c κs = search needs
+matched-at-requires-4 c κs = end-ready (c .before .before .before .pre) _ (lit≤ tt)
 
 returns : tie.Need-returns
 unfolding numbers trioAt upTo
@@ -31,6 +32,7 @@ returns c =
     let m3 = m .before .matched-at3 in
     let m2 = m .before .before .matched-at2 in
     let m1 = m .before .before .before .matched-at in
+    let a = m .before .before .before .before .pre in
     rw (
       back-ok w32 (m1 .result .a) (t1 .0 .1),
       back-ok w32 (m1 .result .b) (t1 .1 .0 .1),
@@ -44,10 +46,10 @@ returns c =
       back-ok w32 (m4 .result .a) (t4 .0 .1),
       back-ok w32 (m4 .result .b) (t4 .1 .0 .1),
       back-ok w32 (m4 .result .c) (t4 .1 .1 .0 .1),
-      m1 .ensures,
-      m2 .ensures,
-      m3 .ensures,
-      m4 .ensures,
+      weighed-trio a _ (m1 .ensures) (lit≤ tt),
+      weighed-trio a _ (m2 .ensures) (lit≤ tt),
+      weighed-trio a _ (m3 .ensures) (lit≤ tt),
+      weighed-trio a _ (m4 .ensures) (lit≤ tt),
     )
 
 pub numbers-spec : {M : Type 1} → statement M

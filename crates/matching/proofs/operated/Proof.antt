@@ -9,7 +9,8 @@ use lib.IntN.{ℤ, _+ℤ_}
 use Rattle.integer.proofs.Reading.{ints}
 use Rattle.integer.proofs.Laws.{within-≤, within-is}
 use Rattle.matching.specs.Matching.{three, even, operation, operated}
-use Rattle.matching.specs.MatchingInput.{OperationInput, parts}
+use Rattle.matching.specs.Weights.{parts}
+use Rattle.matching.specs.MatchingInput.{OperationInput}
 use Rattle.matching.proofs.Bits.{kept, Number, given, fits, read, times, plus, minus}
 use Rattle.matching.proofs.Forms.{operation-less}
 use Rattle.matching.proofs.Rows.{operation-within}

@@ -88,18 +88,22 @@ module _ (c : tie.After-old) where
 factors-requires : tie.Need-factors-requires
 factors-requires c κs = factors-ready _ (admissible-r (judged c))
 
+weights-requires : tie.Need-weights-requires
+weights-requires c κs =
+    let d = judged (c .before) in record { sound = admitted (r d) (admissible-r d) 0; factors = c .factors .ensures }
+
 numbers-requires : tie.Need-numbers-requires
 numbers-requires c κs =
-    let d = judged (c .before) in
-    numbers-ready (v d) (xs d) (let-in (c .before)) (admitted (r d) (admissible-r d) 0) _ (c .factors .ensures)
+    let d = judged (c .before .before) in
+    numbers-ready (v d) (xs d) (let-in (c .before .before)) (admitted (r d) (admissible-r d) 0) _ (c .weights .ensures)
 
 place-requires : tie.Need-place-requires
-place-requires c κs = few-held _ (admissible-r (judged (c .before .before)))
+place-requires c κs = few-held _ (admissible-r (judged (c .before .before .before)))
 
 -- once the set is filed
 module _ (c : tie.After-place) where
   abbrev old : tie.After-old
-  old = c .before .before .before
+  old = c .before .before .before .before
 
   abbrev at : tie.After-set-verdict
   at = judged old
@@ -144,4 +148,4 @@ pub sample-spec : {M : Type 1} → statement M
 sample-spec =
     tie.close
     (tie.spec admissible-requires refused-requires returns set-verdict-requires enum-known-why refused-requires-2 returns-2 enum-told factors-requires
-    numbers-requires place-requires filling-requires returns-3 measured-requires returns-4)
+    weights-requires numbers-requires place-requires filling-requires returns-3 measured-requires returns-4)
