@@ -1671,6 +1671,164 @@ static void check_common_blocking(void)
     check_drawn_windows();
 }
 
+/* A record may hold any numbers at its unused ends: they are in no current. */
+static void check_unused_places(void)
+{
+    struct draw d = {0x0DD};
+    struct setting s;
+
+    for (unsigned i = 0; i < 200; i++) {
+        int32_t values[WINDOW_NUMBERS], bare[WINDOW_NUMBERS];
+        struct measured m[SYSTEMS], wanted[SYSTEMS];
+
+        draw_setting(&d, (uint8_t)(2 + i % 2), &s);
+        for (size_t k = 0; k < WINDOW_NUMBERS; k++) {
+            values[k] = (int32_t)draw_from(&d, -MATCHED_LIMIT, MATCHED_LIMIT);
+            bare[k] = k % SET_NUMBERS < 3u * s.ends ? values[k] : 0;
+        }
+        measure_window(&s, values, m);
+        measure_window(&s, bare, wanted);
+        for (size_t y = 0; y < SYSTEMS; y++) {
+            meet("D of ends in use", m[y].differential, wanted[y].differential);
+            meet("H2 of ends in use", m[y].second, wanted[y].second);
+            meet("H5 of ends in use", m[y].fifth, wanted[y].fifth);
+            meet("R of ends in use", m[y].restraint, wanted[y].restraint);
+        }
+    }
+}
+
+/* ---- The measuring call ---- */
+
+#define MEASURED_PAIRS 12000
+#define PAIR_ROOM 520
+#define ANSWERS 108         /* refusals, and 100 to 107 */
+
+/* Both blocks of a measuring call and their lengths. */
+struct pair {
+    uint8_t setting[PAIR_ROOM], samples[PAIR_ROOM];
+    size_t setting_length, samples_length;
+};
+
+/* The measuring call by the other calls, one set after another. */
+static uint32_t by_calls(const struct pair *p)
+{
+    int16_t list[BLOCK_NUMBERS];
+    struct setting s;
+    struct relay relay;
+    struct answer answer;
+    size_t offset, n = 0;
+    uint32_t r = read_setting(p->setting, p->setting_length, &s, &offset);
+
+    if (r == ACCEPTED)
+        r = read_samples(p->samples, p->samples_length, list, &n);
+    if (r == ACCEPTED)
+        r = relay_start(&s, &relay, &offset);
+    for (size_t k = 0; r == ACCEPTED && k < n; k += SET_NUMBERS)
+        r = relay_sample(&relay, list + k, SET_NUMBERS, &answer);
+    if (r != ACCEPTED)
+        return r;
+    return 100u + relay.latches[0] + 2u * relay.latches[1] + 4u * relay.latches[2];
+}
+
+/* Damage number kind to a setting block, which leads to one of refusals 1 to 7. */
+static void spoil_setting(struct draw *d, unsigned kind, struct pair *p)
+{
+    const struct field *f = &FIELD[draw_from(d, 1, FIELDS - 1)];
+    uint32_t aim = (uint32_t)draw_from(d, 1, 50000);
+
+    if (kind == 1)
+        p->setting_length = (size_t)draw_from(d, 0, PAIR_ROOM);
+    else if (kind == 2)
+        p->setting[draw_from(d, 0, 511)] ^= (uint8_t)draw_from(d, 1, 255);
+    else if (kind == 3)
+        p->setting[draw_from(d, 0, 3)] ^= (uint8_t)draw_from(d, 1, 255);
+    else if (kind == 4)
+        p->setting[4] = (uint8_t)draw_from(d, 0, 255);
+    else if (kind == 5 && draw_chance(d, 50))
+        put_field(p->setting, f, draw_chance(d, 50) ? f->low - 1 : f->high + 1);
+    else if (kind == 5)
+        p->setting[draw_from(d, 5, 509)] ^= (uint8_t)draw_from(d, 1, 255);
+    else
+        put_field(p->setting, &FIELD[draw_chance(d, 50) ? 3 : 9], aim);
+    if (kind > 2)
+        seal_block(p->setting);
+}
+
+/* Damage to a sample block, which leads to one of refusals 1, 2, 3, 8, 9. */
+static void spoil_samples(struct draw *d, unsigned kind, struct pair *p)
+{
+    if (kind == 1)
+        p->samples_length = (size_t)draw_from(d, 0, PAIR_ROOM);
+    else if (kind == 2)
+        p->samples[draw_from(d, 0, 511)] ^= (uint8_t)draw_from(d, 1, 255);
+    else if (kind == 3)
+        p->samples[0] ^= (uint8_t)draw_from(d, 1, 255);
+    else if (kind == 4)
+        p->samples[1] = (uint8_t)draw_from(d, 22, 255);
+    else
+        p->samples[draw_chance(d, 50) ? 2 : draw_from(d, 3, 509)] = 1;
+    if (kind > 2)
+        seal_block(p->samples);
+}
+
+/* Pair number i: a scene of up to 21 sets with some that 10 or 11 decline in one of
+ * five; in two of five damage to one block or both. P at a system's D, or beside it,
+ * in one of four. */
+static void draw_pair(struct draw *d, unsigned i, struct pair *p)
+{
+    size_t sets = (size_t)draw_from(d, draw_chance(d, 80) ? 15 : 0, BLOCK_SETS);
+    int16_t list[BLOCK_NUMBERS] = {0};
+    struct scene scene;
+
+    draw_turned(d, i, &scene);
+    for (size_t k = 0; k < sets; k++) {
+        turned_set(d, &scene, k, list + SET_NUMBERS * k);
+        for (size_t j = 0; i % 5 != 0 && j < SET_NUMBERS; j++)
+            list[SET_NUMBERS * k + j] = j < 3u * scene.setting.ends
+                ? clip_sample(list[SET_NUMBERS * k + j]) : 0;
+    }
+    if (i % 4 == 0)
+        aim_pick_up(list, (size_t)draw_from(d, 0, 2), draw_from(d, -1, 1),
+                    &scene.setting);
+    memset(p, 0, sizeof *p);
+    lay_setting(&scene.setting, p->setting);
+    write_samples(p->samples, BLOCK_BYTES, 0, list, SET_NUMBERS * sets);
+    p->setting_length = p->samples_length = BLOCK_BYTES;
+    if (i % 5 == 1 || i % 25 == 2)
+        spoil_setting(d, (unsigned)draw_from(d, 1, 6), p);
+    if (i % 5 == 2 || i % 25 == 1)
+        spoil_samples(d, (unsigned)draw_from(d, 1, 5), p);
+}
+
+/* Drawn pairs against the other calls; each answer comes up some dozens of times. */
+static void check_measured_pairs(void)
+{
+    static const uint8_t met[] = {1, 2, 3, 4, 5, 6, 7, 8, 9, 10, 11, 100, 101, 102,
+                                  103, 104, 105, 106, 107};
+    unsigned count[ANSWERS] = {0}, refused = 0, latched = 0;
+    struct draw d = {0x9A125};
+    struct pair p;
+
+    for (unsigned i = 0; i < MEASURED_PAIRS; i++) {
+        uint32_t found, wanted;
+
+        draw_pair(&d, i, &p);
+        wanted = by_calls(&p);
+        found = measure_block(p.setting, p.setting_length, p.samples,
+                              p.samples_length);
+        meet("measured pair", found, wanted);
+        count[wanted]++;
+        refused += wanted < 100;
+        latched += wanted > 100;
+    }
+    for (size_t i = 0; i < sizeof met; i++)
+        meet("dozens of an answer", count[met[i]] >= 24, 1);
+    printf("second: %u pairs measured, %u latched, %u refused: ", MEASURED_PAIRS,
+           latched, refused);
+    for (unsigned i = BLOCK_LENGTH; i <= UNUSED_END_WRONG; i++)
+        printf("%u:%u%s", i, count[i], i < UNUSED_END_WRONG ? " " : "\n");
+}
+
 int main(void)
 {
     check_factors();
@@ -1694,6 +1852,8 @@ int main(void)
     check_page();
     check_paged_lists();
     check_common_blocking();
+    check_unused_places();
+    check_measured_pairs();
     if (failures != 0) {
         printf("second: selftest %u of %u checks fail\n", failures, checks);
         return 1;
