@@ -4,7 +4,8 @@
 # make edits    the must-fail edits that the gate leaves out for time.
 # make mutants  wrong programs drawn by chance from the source, which must be refused as well: N for each crate, by SEED.
 # make fuzz     a million blocks through the C calls against the second program, built with the address and undefined-behaviour sanitizers.
-# make speed    the measuring call against the second program's, at 2, 3 and 4 ends: the ratio of times in one run, and instructions (valgrind).
+# make speed    the measuring call against the second program's, at 2, 3 and 4 ends: the ratio of times in one run, and instructions (valgrind); and
+#               the turns of a root at light load and at faults.
 CC = gcc
 CFLAGS = -std=c11 -O2 -Wall -Wextra -Werror
 HOST = target/staticlib/libhost.a
@@ -23,9 +24,9 @@ run: $(BENCH)
 test:
 	tests/gate
 
-build/numbers: second/numbers.c
+build/numbers: second/numbers.c second/root.c second/root.h
 	@mkdir -p build
-	$(CC) $(CFLAGS) -o $@ $<
+	$(CC) $(CFLAGS) -o $@ $< second/root.c
 
 build/selftest build/vectors build/bench: build/%: second/%.c $(SECOND)
 	@mkdir -p build
@@ -112,9 +113,9 @@ build/fuzz-checked: second/fuzz.c $(SECOND) include/tdp.h $(HOST)
 	@mkdir -p build
 	$(CC) -std=c11 -O1 -g -fsanitize=address,undefined -Iinclude -o $@ $< second/relay.c second/draw.c $(HOST) -lm
 
-build/speed: second/speed.c $(SECOND) include/tdp.h $(HOST)
+build/speed: second/speed.c second/root.c second/root.h $(SECOND) include/tdp.h $(HOST)
 	@mkdir -p build
-	$(CC) -std=c11 -O3 -Wall -Wextra -Werror -Iinclude -o $@ $< second/relay.c second/draw.c $(HOST) -lm
+	$(CC) -std=c11 -O3 -Wall -Wextra -Werror -Iinclude -o $@ $< second/root.c second/relay.c second/draw.c $(HOST) -lm
 
 # Two blocks to a call.
 fuzz: build/fuzz-checked

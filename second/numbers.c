@@ -1,9 +1,12 @@
 /* The input of the program `numbers` (numbers input) and what it must print (numbers expect): quotients to the nearest and whole roots, worked
    out here in 128 bits and by bisection. A record is 17 bytes, a letter and two numbers a and b: n is a/b with a half going up, m is -a/b in
-   the same way, a is a/b with a half going away from zero, b is -a/b in the same way, and r is the root of a. */
+   the same way, a is a/b with a half going away from zero, b is -a/b in the same way, and r is the root of a, printed with its turns. */
+#include "root.h"
+
 #include <inttypes.h>
 #include <stdint.h>
 #include <stdio.h>
+#include <stdlib.h>
 #include <string.h>
 
 static int expect;
@@ -58,15 +61,68 @@ static void quotient(int letter, int64_t a, uint64_t b)
     put_u64(b);
 }
 
+/* the turns of x, which end at its root and are no more than its binary digits, of which 0 has none */
+static unsigned right_turns(uint64_t x)
+{
+    uint64_t left;
+    unsigned turns = root_turns(x, &left);
+    if (left == root(x) && turns <= binary_digits(x))
+        return turns;
+    fprintf(stderr, "numbers: the root of %" PRIu64 " is %" PRIu64 ", and %u turns leave %" PRIu64 "\n", x, root(x), turns, left);
+    exit(3);
+}
+
 static void square_root(uint64_t x)
 {
+    unsigned turns = right_turns(x);
     if (expect) {
-        printf("%" PRIu64 "\n", root(x));
+        printf("%" PRIu64 " %u\n", root(x), turns);
         return;
     }
     putchar('r');
     put_u64(x);
     put_u64(0);
+}
+
+/* the numbers one below x, x and one above it, as far as they are there */
+static void around(uint64_t x)
+{
+    if (x > 0)
+        square_root(x - 1);
+    square_root(x);
+    if (x < UINT64_MAX)
+        square_root(x + 1);
+}
+
+/* around the squares of numbers one below a power of two, of the power and of one above it; of numbers that grow by 7/5; and of 2^32 - 1 */
+static void around_squares(void)
+{
+    for (unsigned j = 0; j <= 32; j++)
+        for (uint64_t r = (UINT64_C(1) << j) - 1; r <= (UINT64_C(1) << j) + 1; r++)
+            if (r < UINT64_C(4294967296))
+                around(r * r);
+    for (uint64_t r = 5; r < UINT64_C(4294967296); r = r * 7 / 5)
+        around(r * r);
+    around(UINT64_C(4294967295) * UINT64_C(4294967295));
+}
+
+/* around powers of two */
+static void around_powers(void)
+{
+    for (unsigned j = 0; j < 64; j++)
+        around(UINT64_C(1) << j);
+}
+
+/* so many numbers of 1 to 64 binary digits in turn, drawn by xorshift */
+static void drawn(unsigned count)
+{
+    uint64_t state = UINT64_C(0x9E3779B97F4A7C15);
+    for (unsigned i = 0; i < count; i++) {
+        state ^= state << 13;
+        state ^= state >> 7;
+        state ^= state << 17;
+        square_root((state | UINT64_C(1) << 63) >> i % 64);
+    }
 }
 
 int main(int argc, char **argv)
@@ -96,5 +152,11 @@ int main(int argc, char **argv)
     square_root(UINT64_C(18446744065119617024));
     square_root(UINT64_C(18446744065119617025));
     square_root(UINT64_MAX);
+    for (uint64_t x = 0; x < 4; x++)
+        square_root(x);
+    around_squares();
+    around_powers();
+    square_root(UINT64_MAX);
+    drawn(100);
     return 0;
 }

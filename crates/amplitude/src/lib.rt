@@ -54,7 +54,8 @@ fn of_order(u: [i32; 12], h: u8) -> u32
     requires { ⌜ CycleInput u ⌝ }
     ensures { λ r. ⌜ r ≡ amplitudeOf h (inOrder u) ⌝ }
 {
-    integer::root(squared(u, h, 0) + squared(u, h, 9)) as u32
+    let found = integer::root(squared(u, h, 0) + squared(u, h, 9));
+    found.root as u32
 }
 
 // The same with each harmonic's constants known where the code is made.

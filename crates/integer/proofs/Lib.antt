@@ -5,4 +5,5 @@ pub mod Machine
 mod Rounding
 pub mod HalfUnit
 pub mod RootLaws
+mod Newton
 pub mod SumLaws

@@ -1,4 +1,4 @@
--- Laws of sums: of differences, negated terms and multiples, of equal terms, and bounds on the size.
+-- Laws of sums: of sums, differences, negated terms and multiples, of equal terms, and bounds on the size.
 use mathlib.Core.Path.{_≡_, refl}
 use Prim.Native.Nat.{ℕ, zero, suc, _+_, _*_, _<_}
 use native.Mathlib.Numerals.{add-one}
@@ -17,6 +17,11 @@ pub sum-same : (f g : ℕ → ℤ) (n : ℕ) → ((k : ℕ) → k < n → f k �
 unfolding sum
 sum-same f g zero h = refl
 sum-same f g (suc n) h = rw (sum-same f g n (λ k l. h k (omega arith)), h n (omega arith))
+
+pub sum-+ : (f g : ℕ → ℤ) (n : ℕ) → sum n (λ k. f k +ℤ g k) ≡ sum n f +ℤ sum n g
+unfolding sum
+sum-+ f g zero = refl
+sum-+ f g (suc n) = rw (sum-+ f g n) (simp ints (omega arith))
 
 pub sum-- : (f g : ℕ → ℤ) (n : ℕ) → sum n (λ k. f k -ℤ g k) ≡ sum n f -ℤ sum n g
 unfolding sum

@@ -1,8 +1,10 @@
 -- The whole square root (document 01, "Amplitudes": the largest whole number whose square is at most n).
 use mathlib.Core.Path.{_≡_}
-use mathlib.Core.Bool.{cond}
-use Prim.Native.Nat.{ℕ, zero, suc, _+_, _*_, _/_, _≤_, _<_}
-use lib.Dec.{leb}
+use mathlib.Core.Bool.{Bool, true, false, cond}
+use Prim.Native.Nat.{ℕ, zero, suc, _+_, _*_, _-_, _/_, _^_, _≤_, _<_}
+use lib.Dec.{leb, ltb}
+use lib.Count.{leadingZeros}
+use Rattle.integer.specs.declared.Found.{Found}
 
 -- r is the root of n: its square is at most n, and that of the next number is not
 pub record Root (n r : ℕ) : Type 0 where
@@ -22,7 +24,49 @@ rootBy (suc most) (suc n) = raised (suc n) (2 * rootBy most (suc n / 4))
 abbrev pub root : ℕ → ℕ
 root n = rootBy n n
 
--- what finding the root gives: the definition's number, and document 01's sentence of it
-pub record FindsRoot (n r : ℕ) : Type 0 where
-  pub same : r ≡ root n
-  pub largest : Root n r
+-- ---- how it is found (document 02, card 5)
+
+-- how many binary digits n has, below 2 ^ 64: none for 0
+abbrev pub digits : ℕ → ℕ
+digits n = 64 - leadingZeros 64 n
+
+-- Newton's step from r: half of r + n / r
+abbrev pub step : (n r : ℕ) → ℕ
+step n r = (r + n / r) / 2
+
+-- no root is above 2 ^ 32 - 1
+abbrev pub capped : ℕ → ℕ
+capped r = cond (ltb 4294967295 r) 4294967295 r
+
+-- the start: one more than two steps from the power of two that has half of n's digits
+unfoldable pub start : ℕ → ℕ
+start n = capped (step n (step n (2 ^ (digits n / 2))) + 1)
+
+-- whether r is no longer above the root
+abbrev pub reached : (n r : ℕ) → Bool
+reached n r = leb (r * r) n
+
+-- the turns from r: one for each step until the root is reached. A step from above the root lowers r, so that r is enough for `most`.
+unfoldable pub turnsFrom : (most : ℕ) (there : Bool) (n r : ℕ) → ℕ
+turnsFrom zero there n r = 0
+turnsFrom (suc most) true n r = 0
+turnsFrom (suc most) false n r = 1 + turnsFrom most (reached n (step n r)) n (step n r)
+
+abbrev pub turnsAt : (n r : ℕ) → ℕ
+turnsAt n r = turnsFrom r (reached n r) n r
+
+-- the turns that finding the root of n takes: none at 0
+abbrev pub turns : ℕ → ℕ
+turns zero = 0
+turns (suc n) = turnsAt (suc n) (start (suc n))
+
+-- The root and any search for its start take at most as many turns as n has binary digits, none at 0.
+pub record FewTurns : Type 0 where
+  pub few : (n : ℕ) → n < 2 ^ 64 → turns n ≤ digits n
+  pub none : turns 0 ≡ 0
+
+-- what finding the root gives: the definition's number, and document 01's sentence of it; and the turns, one counted in each
+pub record FindsRoot (n : ℕ) (f : Found) : Type 0 where
+  pub same : f .root ≡ root n
+  pub largest : Root n (f .root)
+  pub counted : f .turns ≡ turns n

@@ -2,8 +2,9 @@
 // other crates' proofs cite stand in proofs/.
 
 ghost use mathlib.Core.Path.{_≡_};
+ghost use Prim.Native.Nat.{_+_, _/_, _^_, _<_};
 ghost use Rattle.integer.specs.Nearest.{Divides, nearest as nearestOf, nearestAway};
-ghost use Rattle.integer.specs.Root.{FindsRoot};
+ghost use Rattle.integer.specs.Root.{step as stepOf, start as startOf, FindsRoot, FewTurns};
 
 // a / b to the nearest whole number; a half goes up. The machine rounds a quotient toward zero:
 // where the remainder is negative, that is one too many.
@@ -29,19 +30,51 @@ pub fn nearest_away(a: i64, b: u64) -> i64
     (2 * a + half) / (2 * d)
 }
 
-// The largest r whose square is at most x, a binary digit a turn from the top: half as many turns
-// as x has digits, none at 0.
-pub fn root(x: u64) -> u64
-    ensures { λ r. ⌜ FindsRoot x r ⌝ }
-{
-    let mut left = (65 - u64::leading_zeros(x)) / 2;
-    let mut r: u64 = 0;
-    while 0 < left {
-        left -= 1;
-        let t = r + (1u64 << left);
-        if t * t <= x {
-            r = t;
-        }
-    }
-    r
+// The largest number whose square is at most another, and the turns of the loop that found it.
+pub struct Found {
+    pub root: u64,
+    pub turns: u8,
 }
+
+// Newton's step from r: half of r + x / r. From any r above 0 it is not below the root.
+fn step(x: u64, r: u64) -> u64
+    requires { ⌜ (0 < r) × (r + x / r < 2 ^ 64) ⌝ }
+    ensures { λ s. ⌜ s ≡ stepOf x r ⌝ }
+{
+    (r + x / r) / 2
+}
+
+// Where the loop starts: one more than two steps from the power of two that has half of x's digits, the first of which is a shift. That is above the
+// root by so little that one turn is left nearly always, which the processor foresees.
+fn start(x: u64) -> u64
+    requires { ⌜ 0 < x ⌝ }
+    ensures { λ r. ⌜ r ≡ startOf x ⌝ }
+{
+    let half = (64 - u64::leading_zeros(x)) / 2;
+    let r = step(x, step(x, 1u64 << half)) + 1;
+    if 4294967295 < r { 4294967295 } else { r }
+}
+
+// The root of x: a step a turn for as long as r is above it, and no turn at 0.
+pub fn root(x: u64) -> Found
+    ensures { λ f. ⌜ FindsRoot x f ⌝ }
+{
+    if x == 0 {
+        return Found { root: 0, turns: 0 };
+    }
+    let mut r = start(x);
+    let mut turns: u8 = 0;
+    while x < r * r {
+        r = step(x, r);
+        turns += 1;
+    }
+    Found {
+        root: r,
+        turns: turns,
+    }
+}
+
+// No more turns than binary digits (02, card 5): no code, the statement and its proof.
+pub fn few_turns()
+    ensures { λ _. ⌜ FewTurns ⌝ }
+{}

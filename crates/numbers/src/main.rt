@@ -1,5 +1,6 @@
 // Runs the roundings and `root` on numbers from standard input and prints the results, a line each. A record is 17 bytes: what to do ('n' nearest of
-// a/b with a half up, 'm' the same of −a/b, 'a' and 'b' with a half away from zero, 'r' root of a), then a and b, eight bytes each, little-endian.
+// a/b with a half up, 'm' the same of −a/b, 'a' and 'b' with a half away from zero, 'r' root of a and its turns), then a and b, eight bytes each,
+// little-endian.
 // second/numbers.c makes the input and the expected output.
 
 ghost use Prim.Native.Nat.{_+_, _<_};
@@ -49,6 +50,13 @@ fn print_quotient(minus: bool, away: bool, a: u64, b: u64) {
     text::print_number(rounded(away, n, b));
 }
 
+fn print_root(a: u64) {
+    let found = integer::root(a);
+    io::print_decimal(STDOUT_FILENO, found.root);
+    io::write_all(STDOUT_FILENO, b" ");
+    io::print_decimal(STDOUT_FILENO, found.turns as u64);
+}
+
 fn next() -> bool {
     let mut record = [0u8; 17];
     let n = io::read_full(0, &mut record);
@@ -59,7 +67,7 @@ fn next() -> bool {
     let a = u64_at(&record, 1);
     let b = u64_at(&record, 9);
     if kind == b'r' {
-        io::print_decimal(STDOUT_FILENO, integer::root(a));
+        print_root(a);
     } else {
         print_quotient(
             kind == b'm' || kind == b'b',

@@ -20,11 +20,11 @@ root-requires : tie.Need-root-requires
 root-requires c κs = search needs
 
 cast-result : tie.Need-cast-result
-cast-result c = record { fits = omega (arith, root-≤ (2 ^ 32 - 1) (c .root .ensures .largest) (add-root (c .before) .fits)) }
+cast-result c = record { fits = omega (arith, root-≤ (2 ^ 32 - 1) (c .before .root .ensures .largest) (add-root (c .before .before) .fits)) }
 
 returns : tie.Need-returns
 unfolding amplitude
-returns c = rw (c .root .ensures .same, c .before .before .squared .ensures .is, c .before .squared2 .ensures .is)
+returns c = rw (c .before .root .ensures .same, c .before .before .before .squared .ensures .is, c .before .before .squared2 .ensures .is)
 
 pub of-order-spec : {M : Type 1} → statement M
 of-order-spec = tie.close (tie.spec squared-requires squared-requires-2 add-root root-requires cast-result returns)
