@@ -2,66 +2,36 @@
 -- its half-unit law.
 use mathlib.Core.Path.{_≡_, refl}
 use mathlib.Core.Bool.{Bool}
-use mathlib.Core.List.{List}
 use Prim.Native.Nat.{ℕ, _+_, _*_, _/_, _%_, _≤_, _<_}
 use native.Mathlib.Nat.{mul-le-mul}
 use native.Mathlib.Omega.{arith}
-use lib.Dec.{T, leb, ltb, leb→le, ltb→lt}
-use lib.IntN.{ℤ, pos, negsuc, natAbs, _*ℤ_}
+use lib.Dec.{T, ltb, ltb→lt}
+use lib.IntN.{ℤ, pos, negsuc, _*ℤ_}
+use Rattle.integer.specs.Nearest.{nearestAway}
 use Rattle.integer.specs.Within.{_within_}
-use Rattle.integer.specs.Sum.{sum}
 use Rattle.integer.proofs.Reading.{ints, _⇒_}
-use Rattle.integer.proofs.Laws.{within-≤, within-*}
 use Rattle.integer.proofs.HalfUnit.{nearestAway-near}
 use Rattle.integer.proofs.RootLaws.{root-is, root-≤}
-use Rattle.integer.proofs.SumLaws.{sum-within, weight, weighted}
-use Rattle.lists.proofs.TestLaws.{test-each, each-get}
-use Rattle.amplitude.specs.declared.Harmonic.{Harmonic}
-use Rattle.amplitude.specs.declared.Harmonic.the-variants.{First, Second, Fifth}
-use Rattle.amplitude.specs.Amplitude.{order, constants, t, weightedSum, cycle, square, amplitude, inOrder}
-use Rattle.amplitude.specs.CycleInput.{CycleInput}
+use Rattle.integer.proofs.SumLaws.{weight, weighted}
+use Rattle.amplitude.specs.Amplitude.{t, weightedSum, cycle, square, amplitude}
 
--- ---- the constants
-
--- each is within 1560: a test of the list, carried to each entry
-pub t-within : (k : ℕ) → t k within 1560
-unfolding t
-t-within k =
-    each-get
-    {P = λ x. x within 1560}
-    (test-each (λ x. leb (natAbs x) 1560) (λ x e. record { size = leb→le (natAbs x) 1560 e }) constants tt)
-    (record { size = omega arith })
-    k
+-- ---- the sums
 
 -- the constant of the number k
 abbrev pub constant : (h from k : ℕ) → ℤ
 constant h from k = t ((h * k + from) % 12)
 
--- ---- the sums
-
--- the sum of the first n products of numbers as large as the code takes
-abbrev pub partial : (h from : ℕ) → List ℤ → ℕ → ℤ
-partial h from us n = sum n (λ k. constant h from k *ℤ inOrder us k)
-
-pub partial-within : (h from : ℕ) {us : List ℤ} → CycleInput us → (n : ℕ) → n ≤ 12 → partial h from us n within (12 * (1560 * 3200000))
-partial-within h from z n l = within-≤ (sum-within (1560 * 3200000) n _ (λ k j. within-* (t-within _) (z .small k))) (omega arith)
-
 -- c or s, of a sum within w
-quotient-within : (h from w : ℕ) (u : ℕ → ℤ) → weightedSum h from u within w → cycle h from u within ((9360 + 2 * w) / 18720)
-unfolding cycle
-quotient-within h from w u small = nearestAway-near (weightedSum h from u) 9360 (omega arith) ⇒ small ⇒ simp ints (omega arith)
-
-pub cycle-small : (h from : ℕ) {us : List ℤ} → CycleInput us → cycle h from (inOrder us) within 6400000
-unfolding weightedSum
-cycle-small h from z = quotient-within h from (12 * (1560 * 3200000)) _ (partial-within h from z 12 (omega arith))
+pub quotient-within : (w : ℕ) (x : ℤ) → x within w → nearestAway x 9360 within ((9360 + 2 * w) / 18720)
+quotient-within w x small = nearestAway-near x 9360 (omega arith) ⇒ small ⇒ simp ints (omega arith)
 
 -- what c or s of numbers within b is within, by the sum of the constants' sizes
 unfoldable pub most : (h from b : ℕ) → ℕ
 most h from b = (9360 + 2 * (weight 12 (constant h from) * b)) / 18720
 
 cycle-within : (h from b : ℕ) (u : ℕ → ℤ) → ((k : ℕ) → k < 12 → u k within b) → cycle h from u within most h from b
-unfolding weightedSum most
-cycle-within h from b u small = quotient-within h from (weight 12 (constant h from) * b) u (weighted (constant h from) u b 12 small)
+unfolding weightedSum cycle most
+cycle-within h from b u small = quotient-within (weight 12 (constant h from) * b) _ (weighted (constant h from) u b 12 small)
 
 -- ---- the amplitude
 
@@ -84,13 +54,3 @@ unfolding bounded amplitude
 amplitude-≤ h b d u test small =
     let less = ltb→lt (squares h b) ((d + 1) * (d + 1)) test in
     root-≤ d (root-is _) (omega (arith, square-≤ (cycle-within h 0 b u small), square-≤ (cycle-within h 9 b u small)))
-
--- of numbers as large as the code takes
-largest : (h : Harmonic) → T (bounded (order h) 3200000 6400000)
-unfolding bounded most weight t
-largest First = tt
-largest Second = tt
-largest Fifth = tt
-
-pub amplitude-small : (h : Harmonic) {us : List ℤ} → CycleInput us → amplitude (order h) (inOrder us) ≤ 6400000
-amplitude-small h {us} z = amplitude-≤ (order h) 3200000 6400000 (inOrder us) (largest h) (λ k l. z .small k)

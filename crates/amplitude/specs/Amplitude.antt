@@ -7,14 +7,17 @@ use lib.ListN.{getD}
 use Rattle.integer.specs.Nearest.{nearestAway}
 use Rattle.integer.specs.Root.{root}
 use Rattle.integer.specs.Sum.{sum}
-use Rattle.amplitude.specs.declared.Harmonic.{Harmonic}
-use Rattle.amplitude.specs.declared.Harmonic.the-variants.{First, Second, Fifth}
 
 -- the harmonics that are measured: h = 1, 2, 5
+pub data Harmonic : Type 0 where
+  first : Harmonic
+  second : Harmonic
+  fifth : Harmonic
+
 abbrev pub order : Harmonic → ℕ
-order First = 1
-order Second = 2
-order Fifth = 5
+order first = 1
+order second = 2
+order fifth = 5
 
 -- the constants t0 to t11
 abbrev pub constants : List ℤ
@@ -38,7 +41,3 @@ square x = natAbs x * natAbs x
 -- the amplitude: the largest whole number whose square is at most c² + s²
 unfoldable pub amplitude : (h : ℕ) → (ℕ → ℤ) → ℕ
 amplitude h u = root (square (cycle h 0 u) + square (cycle h 9 u))
-
--- the numbers of a window as a list, oldest first
-abbrev pub inOrder : List ℤ → ℕ → ℤ
-inOrder us k = getD us k (pos 0)

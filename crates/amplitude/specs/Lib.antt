@@ -1,3 +1,3 @@
 pub mod Amplitude
-pub mod CycleInput
+pub mod Parts
 pub mod Peak

@@ -1,5 +1,4 @@
 -- Laws that more than one proof cites.
-mod Places
-mod Windows
+mod PartLaws
 mod Holding
 pub mod Negated

@@ -3,4 +3,5 @@ pub mod Measuring
 pub mod Holding
 pub mod Unloaded
 pub mod WindowInput
+pub mod Folded
 pub mod Numbers

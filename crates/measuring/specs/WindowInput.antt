@@ -12,22 +12,10 @@ pub record WindowInput (win : List ℤ) : Type 0 where
   pub long : length win ≡ 144
   pub small : (k : ℕ) → getD win k (pos 0) within 800000
 
--- the number of set k, end z and system y
-pub record PlaceInput (win : List ℤ) (k z y : ℕ) : Type 0 where
-  pub window : WindowInput win
-  pub set : k < 12
-  pub end : z < 4
-  pub system : y < 3
-
 -- two to four ends
 pub record Ends (ends : ℕ) : Type 0 where
   pub two : 2 ≤ ends
   pub four : ends ≤ 4
-
--- the numbers of set k and system y over the ends in use
-pub record SumInput (win : List ℤ) (E k y : ℕ) : Type 0 where
-  pub place : PlaceInput win k 3 y
-  pub ends : Ends E
 
 -- a window and a setting whose third section starts past its basic threshold
 pub record Measurable (v : Setting) (win : List ℤ) : Type 0 where

@@ -2,17 +2,15 @@
 
 ghost use mathlib.Core.Path.{_≡_};
 ghost use mathlib.Core.Bool.{_&&_, _||_};
-ghost use Prim.Native.Nat.{_+_, _*_, _≤_};
-ghost use lib.IntN.{pos};
-ghost use lib.ListN.{getD};
-ghost use Rattle.lists.specs.Lists.{upTo};
+ghost use Prim.Native.Nat.{_*_, _≤_};
+ghost use lib.IntN.{_-ℤ_};
 ghost use Rattle.matching.specs.Sets.{system};
 ghost use Rattle.characteristic.specs.Characteristic.{starts as startsOf, commonOn};
-ghost use Rattle.measuring.specs.Window.{series as seriesOf, sums as sumsOf, difference as differenceOf};
-ghost use Rattle.measuring.specs.Measuring.{twiceRestraint, start, currentsOf, readingsOf};
+ghost use Rattle.measuring.specs.Folded.{combined as combinedOf, Folds, partAt, overEnds, FirstOf, restraintBy, currentsBy};
+ghost use Rattle.measuring.specs.Folded.{CombinedInput, PlaceInput, OverInput};
+ghost use Rattle.measuring.specs.Measuring.{start, readingsOf};
 ghost use Rattle.measuring.specs.Holding.{CommonBlocking};
-ghost use Rattle.measuring.specs.WindowInput.{PlaceInput, SumInput, Measurable, SystemInput};
-use amplitude::Harmonic;
+ghost use Rattle.measuring.specs.WindowInput.{WindowInput, Measurable, SystemInput};
 use characteristic::Currents;
 use characteristic::Held;
 use setting::Setting;
@@ -34,101 +32,129 @@ pub struct Readings {
     pub c: Reading,
 }
 
-// v of set k, end z and system y.
-fn at(win: &[i32], k: usize, z: usize, y: usize) -> i32
-    requires { ⌜ PlaceInput (now win) k z y ⌝ }
-    ensures { λ r. ⌜ r ≡ getD (now (win .entry)) (12 * k + (3 * z + y)) (pos 0) ⌝ }
+// The sum of number i of each set, each times its share w.
+fn combined(win: &[i32], w: [i32; 12], i: usize) -> i32
+    requires { ⌜ CombinedInput (now win) w i ⌝ }
+    ensures { λ r. ⌜ r ≡ combinedOf (now (win .entry)) w i ⌝ }
 {
-    win[12 * k + (3 * z + y)]
-}
-
-// v of an end, over the window.
-fn series(win: &[i32], z: usize, y: usize) -> [i32; 12]
-    requires { ⌜ PlaceInput (now win) 0 z y ⌝ }
-    ensures { λ r. ⌜ r ≡ upTo 12 (seriesOf (now (win .entry)) z (system y)) ⌝ }
-{
-    let mut t = [0i32; 12];
+    let mut sum: i32 = 0;
     let mut k: usize = 0;
     while k < 12 {
-        let x = at(win, k, z, y);
-        t[k] = x;
+        sum += w[k] * win[12 * k + i];
         k += 1;
     }
-    t
+    sum
 }
 
-// End 0 minus end 1.
-fn difference(win: &[i32], y: usize) -> [i32; 12]
-    requires { ⌜ PlaceInput (now win) 0 1 y ⌝ }
-    ensures { λ r. ⌜ r ≡ upTo 12 (differenceOf (now (win .entry)) (system y)) ⌝ }
+// The window in parts: the six parts of c and s, each for the twelve numbers of a set. Those stand side by side, so that the compiler takes several at a
+// time, and multiplies by nothing.
+fn folded(win: &[i32]) -> [i32; 72]
+    requires { ⌜ WindowInput (now win) ⌝ }
+    ensures { λ r. ⌜ Folds (now (win .entry)) r ⌝ }
 {
-    let mut t = [0i32; 12];
-    let mut k: usize = 0;
-    while k < 12 {
-        let x = at(win, k, 0, y) - at(win, k, 1, y);
-        t[k] = x;
-        k += 1;
+    let mut f = [0i32; 72];
+    let mut i: usize = 0;
+    while i < 12 {
+        let c = combined(win, [2, 0, 1, 0, -1, 0, -2, 0, -1, 0, 1, 0], i);
+        let c3 = combined(win, [0, 1, 0, 0, 0, -1, 0, -1, 0, 0, 0, 1], i);
+        let s = combined(win, [0, 1, 0, 2, 0, 1, 0, -1, 0, -2, 0, -1], i);
+        let s3 = combined(win, [0, 0, 1, 0, 1, 0, 0, 0, -1, 0, -1, 0], i);
+        let c2 = combined(win, [2, 1, -1, -2, -1, 1, 2, 1, -1, -2, -1, 1], i);
+        let s2 = combined(win, [0, 1, 1, 0, -1, -1, 0, 1, 1, 0, -1, -1], i);
+        f[i] = c;
+        f[12 + i] = c3;
+        f[24 + i] = s;
+        f[36 + i] = s3;
+        f[48 + i] = c2;
+        f[60 + i] = s2;
+        i += 1;
     }
-    t
+    f
 }
 
-// The sum of v over the ends in use, of set k.
-fn sum_at(win: &[i32], ends: u8, k: usize, y: usize) -> i32
-    requires { ⌜ SumInput (now win) ends k y ⌝ }
-    ensures { λ r. ⌜ r ≡ sumsOf ends (now (win .entry)) (system y) k ⌝ }
+// Part p of end z and system y.
+fn at(f: &[i32], p: usize, z: usize, y: usize) -> i32
+    requires { ⌜ PlaceInput (now f) p z y ⌝ }
+    ensures { λ r. ⌜ r ≡ partAt (now (f .entry)) p z y ⌝ }
 {
-    let mut s: i32 = 0;
-    let mut z: u8 = 0;
-    while z < ends {
-        s += at(win, k, z as usize, y);
-        z += 1;
-    }
-    s
+    f[12 * p + (3 * z + y)]
 }
 
-// That sum over the window.
-fn sums(win: &[i32], ends: u8, y: usize) -> [i32; 12]
-    requires { ⌜ SumInput (now win) ends 0 y ⌝ }
-    ensures { λ r. ⌜ r ≡ upTo 12 (sumsOf ends (now (win .entry)) (system y)) ⌝ }
+// Part p of the sum over the ends in use.
+fn over_ends(f: &[i32], ends: u8, p: usize, y: usize) -> i32
+    requires { ⌜ OverInput (now f) ends p y ⌝ }
+    ensures { λ r. ⌜ r ≡ overEnds ends (now (f .entry)) p y ⌝ }
 {
-    let mut t = [0i32; 12];
-    let mut k: usize = 0;
-    while k < 12 {
-        let x = sum_at(win, ends, k, y);
-        t[k] = x;
-        k += 1;
+    let two = at(f, p, 0, y) + at(f, p, 1, y);
+    if ends == 2 {
+        return two;
     }
-    t
+    let three = two + at(f, p, 2, y);
+    if ends == 3 {
+        return three;
+    }
+    three + at(f, p, 3, y)
+}
+
+// Part p of end 0 minus end 1.
+fn between(f: &[i32], p: usize, y: usize) -> i32
+    requires { ⌜ PlaceInput (now f) p 1 y ⌝ }
+    ensures { λ r. ⌜ r ≡ partAt (now (f .entry)) p 0 y -ℤ partAt (now (f .entry)) p 1 y ⌝ }
+{
+    at(f, p, 0, y) - at(f, p, 1, y)
+}
+
+// The h = 1 amplitude of end z.
+fn end_amplitude(f: &[i32], z: usize, y: usize) -> u32
+    requires { ⌜ PlaceInput (now f) 0 z y ⌝ }
+    ensures { λ r. ⌜ FirstOf (λ p. partAt (now (f .entry)) p z y) r ⌝ }
+{
+    amplitude::amplitude(
+        at(f, 0, z, y),
+        at(f, 1, z, y),
+        at(f, 2, z, y),
+        at(f, 3, z, y),
+    )
 }
 
 // R, twice the restraint.
-fn twice_restraint(ends: u8, win: &[i32], y: usize) -> u32
-    requires { ⌜ SumInput (now win) ends 0 y ⌝ }
-    ensures { λ r. ⌜ r ≡ twiceRestraint ends (now (win .entry)) (system y) ⌝ }
+fn twice_restraint(ends: u8, f: &[i32], y: usize) -> u32
+    requires { ⌜ OverInput (now f) ends 0 y ⌝ }
+    ensures { λ r. ⌜ r ≡ restraintBy ends (now (f .entry)) y ⌝ }
 {
     if ends == 2 {
-        return amplitude::amplitude(difference(win, y), Harmonic::First);
+        return amplitude::amplitude(
+            between(f, 0, y),
+            between(f, 1, y),
+            between(f, 2, y),
+            between(f, 3, y),
+        );
     }
     let mut r: u32 = 0;
     let mut z: u8 = 0;
     while z < ends {
-        r += amplitude::amplitude(series(win, z as usize, y), Harmonic::First);
+        r += end_amplitude(f, z as usize, y);
         z += 1;
     }
     r
 }
 
 // D, R, H2 and H5 of system y.
-fn system_currents(ends: u8, win: &[i32], y: usize) -> Currents
-    requires { ⌜ SumInput (now win) ends 0 y ⌝ }
-    ensures { λ r. ⌜ r ≡ currentsOf ends (now (win .entry)) (system y) ⌝ }
+fn system_currents(ends: u8, f: &[i32], y: usize) -> Currents
+    requires { ⌜ OverInput (now f) ends 0 y ⌝ }
+    ensures { λ r. ⌜ r ≡ currentsBy ends (now (f .entry)) y ⌝ }
 {
-    let u = sums(win, ends, y);
+    let c = over_ends(f, ends, 0, y);
+    let c3 = over_ends(f, ends, 1, y);
+    let s = over_ends(f, ends, 2, y);
+    let s3 = over_ends(f, ends, 3, y);
+    let c2 = over_ends(f, ends, 4, y);
+    let s2 = over_ends(f, ends, 5, y);
     Currents {
-        d: amplitude::amplitude(u, Harmonic::First),
-        r: twice_restraint(ends, win, y),
-        h2: amplitude::amplitude(u, Harmonic::Second),
-        h5: amplitude::amplitude(u, Harmonic::Fifth),
+        d: amplitude::amplitude(c, c3, s, s3),
+        r: twice_restraint(ends, f, y),
+        h2: amplitude::amplitude(c2, 0, 0, s2),
+        h5: amplitude::amplitude(c, 0 - c3, s, 0 - s3),
     }
 }
 
@@ -137,7 +163,8 @@ pub fn started(v: Setting, win: &[i32], y: usize) -> bool
     requires { ⌜ SystemInput v (now win) y ⌝ }
     ensures { λ b. ⌜ b ≡ start v (now (win .entry)) (system y) ⌝ }
 {
-    characteristic::starts(v, system_currents(v.ends, win, y))
+    let f = folded(win);
+    characteristic::starts(v, system_currents(v.ends, &f, y))
 }
 
 fn or(a: bool, b: bool) -> bool
@@ -183,9 +210,10 @@ pub fn measure(v: Setting, win: &[i32]) -> Readings
     ensures { λ r. ⌜ r ≡ readingsOf v (now (win .entry)) ⌝ }
 {
     let ends = v.ends;
-    let a = system_currents(ends, win, 0);
-    let b = system_currents(ends, win, 1);
-    let c = system_currents(ends, win, 2);
+    let f = folded(win);
+    let a = system_currents(ends, &f, 0);
+    let b = system_currents(ends, &f, 1);
+    let c = system_currents(ends, &f, 2);
     let by_a = characteristic::blocking(v, a);
     let by_b = characteristic::blocking(v, b);
     let by_c = characteristic::blocking(v, c);

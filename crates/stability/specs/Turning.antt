@@ -7,8 +7,7 @@ use lib.IntN.{ℤ, negℤ}
 use Rattle.setting.specs.declared.Setting.{Setting}
 use Rattle.setting.specs.Values.{startable}
 use Rattle.matching.specs.Sets.{System}
-use Rattle.amplitude.specs.declared.Harmonic.{Harmonic}
-use Rattle.amplitude.specs.Amplitude.{order, cycle}
+use Rattle.amplitude.specs.Amplitude.{Harmonic, order, cycle}
 use Rattle.measuring.specs.Window.{series, sums, difference}
 use Rattle.relay.specs.declared.Relay.{Relay}
 use Rattle.relay.specs.Record.{fresh}

@@ -1,8 +1,10 @@
 -- `measuring::measure` meets its contract: each system's currents, and what its harmonics hold back, are those of the definitions, so its reading is.
 use borrow.Author.Needs.{needs}
-use mathlib.Core.Path.{_≡_, _∙_}
+use mathlib.Core.Path.{_≡_, sym, _∙_}
 use mathlib.Core.Bool.{Bool, _&&_, _||_}
 use mathlib.Core.List.{List}
+use Prim.Native.Nat.{_*_, _≤_}
+use native.Mathlib.Omega.{arith}
 use lib.IntN.{ℤ}
 use Rattle.setting.specs.declared.Setting.{Setting}
 use Rattle.matching.specs.Sets.{System, sysA, sysB, sysC}
@@ -11,14 +13,27 @@ use Rattle.characteristic.specs.declared.Held.{Held}
 use Rattle.characteristic.specs.Characteristic.{starts, heldBy, commonOn}
 use Rattle.measuring.specs.declared.Reading.{Reading}
 use Rattle.measuring.specs.Measuring.{harmonics, holding, blocked, currentsOf, readingOf, readingsOf}
+use Rattle.measuring.proofs.PartLaws.{currents-are}
 use Rattle.measuring.proofs.measure.Statement.{statement}
 use Rattle.measuring.proofs.measure.Tie as tie
+
+folded-requires : tie.Need-folded-requires
+folded-requires c κs = search needs
+
+slice-aggregate-system-currents : tie.Need-slice-aggregate-system-currents
+slice-aggregate-system-currents c = sym (c .before .folded .ensures .like .long)
 
 system-currents-requires : tie.Need-system-currents-requires
 system-currents-requires c κs = search needs
 
+slice-aggregate-system-currents-2 : tie.Need-slice-aggregate-system-currents-2
+slice-aggregate-system-currents-2 c = sym (c .before .before .before .folded .ensures .like .long)
+
 system-currents-requires-2 : tie.Need-system-currents-requires-2
 system-currents-requires-2 c κs = search needs
+
+slice-aggregate-system-currents-3 : tie.Need-slice-aggregate-system-currents-3
+slice-aggregate-system-currents-3 c = sym (c .before .before .before .before .before .folded .ensures .like .long)
 
 system-currents-requires-3 : tie.Need-system-currents-requires-3
 system-currents-requires-3 c κs = search needs
@@ -35,14 +50,21 @@ blocking-requires-3 c κs = search needs
 common-requires : tie.Need-common-requires
 common-requires c κs = search needs
 
+-- what is known of the setting
+abbrev start : tie.After-common → tie.Start
+start c = c .before .before .before .before .before .before .before .before .before .before .before
+
+sections : (c : tie.After-common) → start c .args .v .thresholds .basic ≤ 2 * start c .args .v .thresholds .knee
+sections c = start c .pre .sections
+
 system-reading-requires : tie.Need-system-reading-requires
-system-reading-requires c κs = search needs
+system-reading-requires c κs = sections c
 
 system-reading-requires-2 : tie.Need-system-reading-requires-2
-system-reading-requires-2 c κs = search needs
+system-reading-requires-2 c κs = sections (c .before)
 
 system-reading-requires-3 : tie.Need-system-reading-requires-3
-system-reading-requires-3 c κs = c .before .before .before .before .before .before .before .before .before .pre .sections
+system-reading-requires-3 c κs = sections (c .before .before)
 
 -- a system's currents are those of the definitions, so what its harmonics hold back and its reading are
 module _ (v : Setting) (win : List ℤ) (l : System) {cur : Currents} (e : cur ≡ currentsOf (v .ends) win l) where
@@ -73,13 +95,16 @@ returns c =
     let by-b = by-c .before in
     let by-a = by-b .before in
     let third = by-a .before in
-    let second = third .before in
-    let first = second .before in
-    let v = first .before .args .v in
-    let win = first .before .args .win .now in
-    let a = first .system-currents .ensures in
-    let b = second .system-currents2 .ensures in
-    let d = third .system-currents3 .ensures in
+    let second = third .before .before in
+    let first = second .before .before in
+    let parts = first .before .before in
+    let v = parts .before .args .v in
+    let win = parts .before .args .win .now in
+    let four = parts .before .pre .ends .four in
+    let folds = parts .folded .ensures in
+    let a = first .system-currents .ensures ∙ currents-are folds 0 (omega arith) _ four in
+    let b = second .system-currents2 .ensures ∙ currents-are folds 1 (omega arith) _ four in
+    let d = third .system-currents3 .ensures ∙ currents-are folds 2 (omega arith) _ four in
     let is =
     blocked-is v win
     (others-is v win sysA a (by-a .blocking .ensures))
@@ -96,5 +121,6 @@ returns c =
 pub measure-spec : {M : Type 1} → statement M
 measure-spec =
     tie.close
-    (tie.spec system-currents-requires system-currents-requires-2 system-currents-requires-3 blocking-requires blocking-requires-2
-    blocking-requires-3 common-requires system-reading-requires system-reading-requires-2 system-reading-requires-3 returns)
+    (tie.spec folded-requires slice-aggregate-system-currents system-currents-requires slice-aggregate-system-currents-2 system-currents-requires-2
+    slice-aggregate-system-currents-3 system-currents-requires-3 blocking-requires blocking-requires-2 blocking-requires-3 common-requires
+    system-reading-requires system-reading-requires-2 system-reading-requires-3 returns)
