@@ -7,9 +7,14 @@ use native.Mathlib.Nat.{mul-le-mul, div-lt-iff-lt-mul, le-div-iff-mul-le, div-le
 use native.Mathlib.Omega.{arith}
 use lib.Dec.{T, leb, ltb, leb→le, nleb→lt, ltb→lt, nltb→le}
 use lib.Pow.{pow-mono, pow-add}
-use lib.Count.{leading-top}
-use Rattle.integer.specs.Root.{Root, root, digits, step, capped, start, reached, turnsFrom, turnsAt, turns, FewTurns}
+use lib.Count.{leadingZeros, leading-top}
+use Rattle.integer.specs.Root.{Root, root, digits, step, most, capped, start, reached, turnsFrom, turnsAt, turns, FewTurns}
 use Rattle.integer.proofs.RootLaws.{root-is}
+
+-- 0, 1 and 3, a million, one that takes three turns, and the largest number of 64 digits
+worked : (turns 0 ≡ 0) × (turns 1 ≡ 1) × (turns 3 ≡ 2) × (turns 1000000 ≡ 1) × (turns 156738930447526599 ≡ 3) × (turns 18446744073709551615 ≡ 0)
+unfolding turnsFrom start leadingZeros
+worked = (refl, refl, refl, refl, refl, refl)
 
 -- ---- a step
 
@@ -97,16 +102,16 @@ turns-some zero h = absurd (omega arith)
 turns-some (suc n) h = refl
 
 -- from nearer to the root than 2 ^ j, no more than j
-few-from : (j most n r m : ℕ) (t : Bool) → (T (not t) → n < r * r) → Root n m → r < m + 2 ^ j → turnsFrom most t n r ≤ j
+few-from : (j bound n r m : ℕ) (t : Bool) → (T (not t) → n < r * r) → Root n m → r < m + 2 ^ j → turnsFrom bound t n r ≤ j
 unfolding turnsFrom
 few-from j zero n r m t h root near = omega arith
-few-from j (suc most) n r m true h root near = omega arith
-few-from zero (suc most) n r m false h root near =
+few-from j (suc bound) n r m true h root near = omega arith
+few-from zero (suc bound) n r m false h root near =
     let low : r ≤ m = omega (arith, near) in absurd (omega (arith, mul-le-mul low low, root .low, h tt))
-few-from (suc j) (suc most) n r m false h root near =
+few-from (suc j) (suc bound) n r m false h root near =
     let s = step n r in
     let closer : s < m + 2 ^ j = omega (arith, step-halves n r m root (h tt), near, pow-add 2 1 j) in
-    omega (arith, few-from j most n s m (reached n s) (nleb→lt _ _) root closer)
+    omega (arith, few-from j bound n s m (reached n s) (nleb→lt _ _) root closer)
 
 -- ---- the start
 
@@ -170,15 +175,15 @@ module _ (n : ℕ) (some : 0 < n) (fits : n < 2 ^ 64) where
   third-≤ = omega (arith, second-≤, div-le-self n (second n))
 
 -- the cap is no loss: the square of one more than it is past every n
-capped-above : (n r : ℕ) → n < 2 ^ 64 → n < (r + 1) * (r + 1) → (n < (capped r + 1) * (capped r + 1)) × (capped r ≤ 4294967295) × (capped r ≤ r)
-capped-above n r fits above = by (ltb 4294967295 r) (ltb→lt _ _) (nltb→le _ _)
+capped-above : (n r : ℕ) → n < 2 ^ 64 → n < (r + 1) * (r + 1) → (n < (capped r + 1) * (capped r + 1)) × (capped r ≤ most) × (capped r ≤ r)
+capped-above n r fits above = by (ltb most r) (ltb→lt _ _) (nltb→le _ _)
   where
-    by : (t : Bool) → (T t → 4294967295 < r) → (T (not t) → r ≤ 4294967295) → (n < (cond t 4294967295 r + 1) * (cond t 4294967295 r + 1)) × (cond t 4294967295 r ≤ 4294967295) × (cond t 4294967295 r ≤ r)
+    by : (t : Bool) → (T t → most < r) → (T (not t) → r ≤ most) → let c = cond t most r in (n < (c + 1) * (c + 1)) × (c ≤ most) × (c ≤ r)
     by true y f = (omega arith, omega arith, omega (arith, y tt))
     by false y f = (above, f tt, omega arith)
 
 -- the start is not below the root, not above the largest root, and no farther from the root than n is from 0
-pub start-near : (n : ℕ) → 0 < n → n < 2 ^ 64 → (n < (start n + 1) * (start n + 1)) × (start n ≤ 4294967295) × (start n ≤ n + 1)
+pub start-near : (n : ℕ) → 0 < n → n < 2 ^ 64 → (n < (start n + 1) * (start n + 1)) × (start n ≤ most) × (start n ≤ n + 1)
 unfolding start
 start-near n some fits =
     let r = step n (second n) + 1 in

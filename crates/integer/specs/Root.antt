@@ -35,8 +35,11 @@ abbrev pub step : (n r : ℕ) → ℕ
 step n r = (r + n / r) / 2
 
 -- no root is above 2 ^ 32 - 1
+abbrev pub most : ℕ
+most = 4294967295
+
 abbrev pub capped : ℕ → ℕ
-capped r = cond (ltb 4294967295 r) 4294967295 r
+capped r = cond (ltb most r) most r
 
 -- the start: one more than two steps from the power of two that has half of n's digits
 unfoldable pub start : ℕ → ℕ
@@ -46,11 +49,11 @@ start n = capped (step n (step n (2 ^ (digits n / 2))) + 1)
 abbrev pub reached : (n r : ℕ) → Bool
 reached n r = leb (r * r) n
 
--- the turns from r: one for each step until the root is reached. A step from above the root lowers r, so that r is enough for `most`.
-unfoldable pub turnsFrom : (most : ℕ) (there : Bool) (n r : ℕ) → ℕ
+-- the turns from r: one for each step until the root is reached. A step from above the root lowers r, so that r is a bound that is never met.
+unfoldable pub turnsFrom : (bound : ℕ) (there : Bool) (n r : ℕ) → ℕ
 turnsFrom zero there n r = 0
-turnsFrom (suc most) true n r = 0
-turnsFrom (suc most) false n r = 1 + turnsFrom most (reached n (step n r)) n (step n r)
+turnsFrom (suc bound) true n r = 0
+turnsFrom (suc bound) false n r = 1 + turnsFrom bound (reached n (step n r)) n (step n r)
 
 abbrev pub turnsAt : (n r : ℕ) → ℕ
 turnsAt n r = turnsFrom r (reached n r) n r

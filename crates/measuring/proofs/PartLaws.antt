@@ -91,15 +91,7 @@ module _ {a b c d x y z w : ℤ} (ea : x ≡ a) (eb : y ≡ b) (ec : z ≡ c) (e
 
 -- ---- a window folded, a store at a time: after 6·j + p of them, part p of number j is the next
 
--- a share is from -2 to 2, and the shares of a part make at most 16
-pub row-within : (p : ℕ) → p < 6 → (k : ℕ) → getD (getD shares p []) k (pos 0) within 2
-row-within p l =
-    each-get
-    {P = λ x. x within 2}
-    (test-each (λ x. leb (natAbs x) 2) (λ x e. record { size = leb→le (natAbs x) 2 e }) (getD shares p [])
-    (every-at 6 (λ p. each (λ x. leb (natAbs x) 2) (getD shares p [])) tt p l))
-    (record { size = omega arith })
-
+-- the shares of a part make at most 16
 rows-small : T (every 6 (λ p. leb (weight 12 (share p)) 16))
 unfolding weight share
 rows-small = tt

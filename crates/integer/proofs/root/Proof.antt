@@ -4,7 +4,7 @@ use mathlib.Core.Path.{_≡_, refl}
 use Prim.Native.Nat.{ℕ, _+_, _*_, _^_, _≤_, _<_}
 use native.Mathlib.Nat.{mul-le-mul, div-lt-iff-lt-mul}
 use native.Mathlib.Omega.{arith}
-use Rattle.integer.specs.Root.{Root, root, step, start, turnsAt, turns}
+use Rattle.integer.specs.Root.{Root, step, most, turnsAt, turns}
 use Rattle.integer.proofs.RootLaws.{root-only}
 use Rattle.integer.proofs.Newton.{square-pos, step-above, step-below, turns-done, turns-more, turns-some, start-near, few-turns}
 use Rattle.integer.proofs.root.Statement.{statement}
@@ -13,7 +13,7 @@ use Rattle.integer.proofs.root.Tie as tie
 -- what holds of x, r and the count before each turn
 record Above (x r count : ℕ) : Type 0 where
   high : x < (r + 1) * (r + 1)
-  small : r ≤ 4294967295
+  small : r ≤ most
   counted : count + turnsAt x r ≡ turns x
 
 abbrev Inv-loop : tie.InvT-loop
@@ -30,10 +30,6 @@ turned x r count h i =
       small = omega (arith, step-below x r h, i .small);
       counted = omega (arith, turns-more x r h, i .counted);
     }
-
--- the end
-found : (x r count : ℕ) → r * r ≤ x → Above x r count → Root x r
-found x r count h i = record { low = h; high = i .high }
 
 returns : tie.Need-returns Inv-loop μ-loop
 returns c =
@@ -53,29 +49,34 @@ loop-holds c =
 mul-loop : tie.Need-mul-loop Inv-loop μ-loop
 mul-loop c = let small = c .loop .inv .small in record { fits = omega (arith, mul-le-mul small small) }
 
+-- in the loop, r is above the root
+above : (c : tie.In-loop Inv-loop μ-loop) → c .before .before .before .before .args .x < c .before .loop .r * c .before .loop .r
+above c = omega (arith, c .loop-test .taken)
+
 step-requires : tie.Need-step-requires Inv-loop μ-loop
 step-requires c κs =
-    let some = square-pos _ _ (c .loop-test .taken) in
-    (some, omega (arith, div-lt-iff-lt-mul some .1 (c .loop-test .taken), c .before .loop .inv .small))
+    let some = square-pos _ _ (above c) in
+    (some, omega (arith, div-lt-iff-lt-mul some .1 (above c), c .before .loop .inv .small))
 
 add-turns : tie.Need-add-turns Inv-loop μ-loop
 add-turns c =
     let at = c .before .before in
     let x = at .before .before .before .args .x in
-    let more = turns-more x (at .loop .r) (c .before .loop-test .taken) in
+    let more = turns-more x (at .loop .r) (above (c .before)) in
     record { fits = omega (arith, more, at .loop .inv .counted, few-turns .few x (at .before .before .before .fits .x .fits)) }
 
 loop-less : tie.Need-loop-less Inv-loop μ-loop
-loop-less c = rw (c .step .ensures) (step-below _ _ (c .before .loop-test .taken))
+loop-less c = rw (c .step .ensures) (step-below _ _ (above (c .before)))
 
 loop-again : tie.Need-loop-again Inv-loop μ-loop
-loop-again c = rw (c .step .ensures) (turned _ _ _ (c .before .loop-test .taken) (c .before .before .loop .inv))
+loop-again c = rw (c .step .ensures) (turned _ _ _ (above (c .before)) (c .before .before .loop .inv))
 
 returns-2 : tie.Need-returns-2 Inv-loop μ-loop
 returns-2 c =
     let i = c .before .loop .inv in
-    let is = found _ _ _ (c .loop-test .left) i in
-    record { same = root-only is; largest = is; counted = omega (arith, turns-done _ _ (c .loop-test .left), i .counted) }
+    let low : c .before .loop .r * c .before .loop .r ≤ c .before .before .before .before .args .x = omega (arith, c .loop-test .left) in
+    let is : Root _ _ = record { low = low; high = i .high } in
+    record { same = root-only is; largest = is; counted = omega (arith, turns-done _ _ low, i .counted) }
 
 pub root-spec : {M : Type 1} → statement M
 root-spec = tie.close (tie.spec Inv-loop μ-loop returns start-requires loop-holds mul-loop step-requires add-turns loop-less loop-again returns-2)

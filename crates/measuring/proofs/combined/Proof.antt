@@ -82,7 +82,7 @@ mul-sum-4 c = let at = c .before .before .before in product-fits (at .before .pr
 
 add-sum-2 : tie.Need-add-sum-2 Inv-loop μ-loop
 add-sum-2 c =
-    let at = c .before .before .before in rw (at .loop .inv .1) (total-fits (at .before .pre) (at .loop .k) (c .before .before .loop-test .taken))
+    let at = c .before .before .before in rw (at .loop .inv .1) (total-fits (at .before .pre) (at .loop .k) (omega arith))
 
 add-k : tie.Need-add-k Inv-loop μ-loop
 add-k c = omega arith
@@ -93,7 +93,7 @@ loop-less c = omega arith
 loop-again : tie.Need-loop-again Inv-loop μ-loop
 loop-again c =
     let at = c .before .before .before in
-    (omega arith, rw (at .loop .inv .1, total-is (at .before .pre) (at .loop .k) (c .before .before .loop-test .taken)))
+    (omega arith, rw (at .loop .inv .1, total-is (at .before .pre) (at .loop .k) (omega arith)))
 
 returns : tie.Need-returns Inv-loop μ-loop
 unfolding combined

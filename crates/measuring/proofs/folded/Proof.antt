@@ -18,7 +18,7 @@ use Rattle.integer.proofs.Machine.{back-ok}
 use Rattle.amplitude.specs.Parts.{shares, part}
 use Rattle.measuring.specs.WindowInput.{WindowInput}
 use Rattle.measuring.specs.Folded.{column, combined, CombinedInput, PartsLike}
-use Rattle.measuring.proofs.PartLaws.{row-within, row-part, Placed, placed-none, placed-more}
+use Rattle.measuring.proofs.PartLaws.{row-part, Placed, placed-none, placed-more}
 use Rattle.measuring.proofs.folded.Statement.{statement}
 use Rattle.measuring.proofs.folded.Tie as tie
 
@@ -43,31 +43,41 @@ zeros-like {f} e t =
 loop-holds : tie.Need-loop-holds Inv-loop μ-loop
 loop-holds c = (omega arith, placed-none (zeros-like refl tt))
 
--- the shares of a part are what `combined` takes
-ready : (p : ℕ) → p < 6 → length (getD shares p []) ≡ 12 → {win : List ℤ} → WindowInput win → {i : ℕ} → i < 12 → CombinedInput win (getD shares p []) i
-ready p l e z h = record { window = z; twelve = e; shares = row-within p l; place = h }
+-- shares from -2 to 2 are what `combined` takes
+ready : {w : List ℤ} → length w ≡ 12 → T (each (λ x. leb (natAbs x) 2) w) → {win : List ℤ} → WindowInput win → {i : ℕ} → i < 12 → CombinedInput win w i
+ready {w} e t z h =
+    record {
+      window = z;
+      twelve = e;
+      shares =
+          each-get
+          {P = λ x. x within 2}
+          (test-each (λ x. leb (natAbs x) 2) (λ x s. record { size = leb→le (natAbs x) 2 s }) w t)
+          (record { size = omega arith });
+      place = h;
+    }
 
--- and what it gives is that part
+-- the sum with the shares of a part is that part
 stored : (win : List ℤ) (p i : ℕ) {x : ℤ} → mag x < 2 ^ hbits w32 → x ≡ combined win (getD shares p []) i → toZ w32 (ofZ w32 x) ≡ part p (column win i)
 stored win p i {x} ok e = back-ok w32 x ok ∙ e ∙ row-part win p i
 
 combined-requires : tie.Need-combined-requires Inv-loop μ-loop
-combined-requires c κs = ready 0 (omega arith) refl (c .before .before .pre) (c .loop-test .taken)
+combined-requires c κs = ready refl tt (c .before .before .pre) (c .loop-test .taken)
 
 combined-requires-2 : tie.Need-combined-requires-2 Inv-loop μ-loop
-combined-requires-2 c κs = ready 1 (omega arith) refl (c .before .before .before .pre) (c .before .loop-test .taken)
+combined-requires-2 c κs = ready refl tt (c .before .before .before .pre) (c .before .loop-test .taken)
 
 combined-requires-3 : tie.Need-combined-requires-3 Inv-loop μ-loop
-combined-requires-3 c κs = ready 2 (omega arith) refl (c .before .before .before .before .pre) (c .before .before .loop-test .taken)
+combined-requires-3 c κs = ready refl tt (c .before .before .before .before .pre) (c .before .before .loop-test .taken)
 
 combined-requires-4 : tie.Need-combined-requires-4 Inv-loop μ-loop
-combined-requires-4 c κs = ready 3 (omega arith) refl (c .before .before .before .before .before .pre) (c .before .before .before .loop-test .taken)
+combined-requires-4 c κs = ready refl tt (c .before .before .before .before .before .pre) (c .before .before .before .loop-test .taken)
 
 combined-requires-5 : tie.Need-combined-requires-5 Inv-loop μ-loop
-combined-requires-5 c κs = ready 4 (omega arith) refl (c .before .before .before .before .before .before .pre) (c .before .before .before .before .loop-test .taken)
+combined-requires-5 c κs = ready refl tt (c .before .before .before .before .before .before .pre) (c .before .before .before .before .loop-test .taken)
 
 combined-requires-6 : tie.Need-combined-requires-6 Inv-loop μ-loop
-combined-requires-6 c κs = ready 5 (omega arith) refl (c .before .before .before .before .before .before .before .pre) (c .before .before .before .before .before .loop-test .taken)
+combined-requires-6 c κs = ready refl tt (c .before .before .before .before .before .before .before .pre) (c .before .before .before .before .before .loop-test .taken)
 
 mul-f : tie.Need-mul-f Inv-loop μ-loop
 mul-f c = search needs

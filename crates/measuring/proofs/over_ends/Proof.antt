@@ -40,7 +40,7 @@ add-two c = over-fits (parts c) _ _ 2 (omega arith) (two c)
 returns : tie.Need-returns
 unfolding overEnds
 returns c =
-    let e : c .before .before .before .args .ends ≡ 2 = c .if1 .taken in
+    let e : c .before .before .before .args .ends ≡ 2 = omega (arith, c .if1 .taken) in
     rw e (over-read (parts (c .before)) _ _ 2 (omega arith) (two (c .before)))
 
 at-requires-3 : tie.Need-at-requires-3
@@ -52,7 +52,7 @@ add-three c = over-fits (parts (c .before .before)) _ _ 3 (omega arith) (three c
 returns-2 : tie.Need-returns-2
 unfolding overEnds
 returns-2 c =
-    let e : c .before .before .before .before .before .args .ends ≡ 3 = c .if2 .taken in
+    let e : c .before .before .before .before .before .args .ends ≡ 3 = omega (arith, c .if2 .taken) in
     rw e (over-read (parts (c .before .before .before)) _ _ 3 (omega arith) (three (c .before)))
 
 at-requires-4 : tie.Need-at-requires-4

@@ -1,6 +1,8 @@
 -- `measuring::started` meets its contract, by those of its callees.
 use borrow.Author.Needs.{needs}
-use mathlib.Core.Path.{sym, _∙_}
+use mathlib.Core.Path.{sym, ap, _∙_}
+use Rattle.characteristic.specs.declared.Currents.{Currents}
+use Rattle.characteristic.specs.Characteristic.{starts}
 use Rattle.measuring.specs.Measuring.{currentsOf}
 use Rattle.measuring.proofs.PartLaws.{currents-are}
 use Rattle.measuring.proofs.started.Statement.{statement}
@@ -22,8 +24,10 @@ returns : tie.Need-returns
 unfolding currentsOf
 returns c =
     let parts = c .before .before .before in
+    let v = parts .before .args .v in
     let pre = parts .before .pre in
-    c .starts .ensures ∙ rw (c .before .system-currents .ensures, currents-are (parts .folded .ensures) _ (pre .system) _ (pre .measurable .ends .four))
+    let are = c .before .system-currents .ensures ∙ currents-are (parts .folded .ensures) _ (pre .system) _ (pre .measurable .ends .four) in
+    c .starts .ensures ∙ ap (λ (cur : Currents). starts v (cur .d) (cur .r)) are
 
 pub started-spec : {M : Type 1} → statement M
 started-spec = tie.close (tie.spec folded-requires slice-aggregate-system-currents system-currents-requires starts-requires returns)
