@@ -11,11 +11,6 @@ use lib.Count.{leadingZeros, leading-top}
 use Rattle.integer.specs.Root.{Root, root, digits, step, most, capped, start, reached, turnsFrom, turnsAt, turns, FewTurns}
 use Rattle.integer.proofs.RootLaws.{root-is}
 
--- 0, 1 and 3, a million, one that takes three turns, and the largest number of 64 digits
-worked : (turns 0 ≡ 0) × (turns 1 ≡ 1) × (turns 3 ≡ 2) × (turns 1000000 ≡ 1) × (turns 156738930447526599 ≡ 3) × (turns 18446744073709551615 ≡ 0)
-unfolding turnsFrom start leadingZeros
-worked = (refl, refl, refl, refl, refl, refl)
-
 -- ---- a step
 
 -- twice a product is at most the two squares
@@ -209,3 +204,8 @@ few-turns = record { few = few; none = refl }
         some : (m : ℕ) → suc n < (m + 1) * (m + 1) → 0 < m
         some zero h = absurd (omega arith)
         some (suc m) h = omega arith
+
+-- 0, 1 and 3, a million, one that takes three turns, and the largest number of 64 digits
+worked : (turns 0 ≡ 0) × (turns 1 ≡ 1) × (turns 3 ≡ 2) × (turns 1000000 ≡ 1) × (turns 156738930447526599 ≡ 3) × (turns 18446744073709551615 ≡ 0)
+unfolding turnsFrom start leadingZeros
+worked = (refl, refl, refl, refl, refl, refl)
