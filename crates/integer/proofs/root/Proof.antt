@@ -23,8 +23,8 @@ abbrev μ-loop : tie.MeasureT-loop
 μ-loop x r₀ count₀ r count = r
 
 -- a turn: the count grows with the step
-turned : (x r count : ℕ) → x < r * r → Above x r count → Above x (step x r) (count + 1)
-turned x r count h i =
+turned : (x r count raised : ℕ) → x < r * r → Above x r count → raised ≡ count + 1 → Above x (step x r) raised
+turned x r count raised h i e =
     record {
       high = step-above x r (square-pos x r h);
       small = omega (arith, step-below x r h, i .small);
@@ -34,7 +34,8 @@ turned x r count h i =
 returns : tie.Need-returns Inv-loop μ-loop
 returns c =
     let e : c .before .args .x ≡ 0 = omega arith in
-    rw e (record { same = root-only (record { low = omega arith; high = omega arith }); largest = record { low = omega arith; high = omega arith }; counted = refl })
+    let is : Root 0 0 = record { low = omega arith; high = omega arith } in
+    rw e (record { same = root-only is; largest = is; counted = refl })
 
 start-requires : tie.Need-start-requires Inv-loop μ-loop
 start-requires c κs = omega arith
@@ -69,7 +70,7 @@ loop-less : tie.Need-loop-less Inv-loop μ-loop
 loop-less c = rw (c .step .ensures) (step-below _ _ (above (c .before)))
 
 loop-again : tie.Need-loop-again Inv-loop μ-loop
-loop-again c = rw (c .step .ensures) (turned _ _ _ (above (c .before)) (c .before .before .loop .inv))
+loop-again c = rw (c .step .ensures) (turned _ _ _ _ (above (c .before)) (c .before .before .loop .inv) (omega arith))
 
 returns-2 : tie.Need-returns-2 Inv-loop μ-loop
 returns-2 c =

@@ -166,4 +166,6 @@ returns c =
 pub folded-spec : {M : Type 1} → statement M
 folded-spec =
     tie.close
-    (tie.spec Inv-loop μ-loop loop-holds combined-requires combined-requires-2 combined-requires-3 combined-requires-4 combined-requires-5 combined-requires-6 mul-f array-set-from-f add-f mul-f-2 array-set-from-f-2 add-f-2 mul-f-3 array-set-from-f-3 add-f-3 mul-f-4 array-set-from-f-4 add-f-4 mul-f-5 array-set-from-f-5 add-f-5 mul-f-6 array-set-from-f-6 add-i loop-less loop-again returns)
+    (tie.spec Inv-loop μ-loop loop-holds combined-requires combined-requires-2 combined-requires-3 combined-requires-4 combined-requires-5
+    combined-requires-6 mul-f array-set-from-f add-f mul-f-2 array-set-from-f-2 add-f-2 mul-f-3 array-set-from-f-3 add-f-3 mul-f-4
+    array-set-from-f-4 add-f-4 mul-f-5 array-set-from-f-5 add-f-5 mul-f-6 array-set-from-f-6 add-i loop-less loop-again returns)
