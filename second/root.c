@@ -21,7 +21,7 @@ static wide step(wide x, wide r)
 }
 
 /* The root of 0 is 0 without a turn. Else it starts at one more than two steps from
- * the power of two with half of the digits, at most at 2^32 - 1, and steps, a turn
+ * 2 to the power of half of the digits, at most at 2^32 - 1, and steps, a turn
  * each, while the square is above x. */
 unsigned root_turns(uint64_t x, uint64_t *left)
 {

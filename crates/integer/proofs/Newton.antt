@@ -110,7 +110,7 @@ few-from (suc j) (suc bound) n r m false h root near =
 
 -- ---- the start
 
--- the power of two that has half of n's digits, and the step from it
+-- 2 to the power of half of n's digits, and the step from it
 abbrev pub guess : ℕ → ℕ
 guess n = 2 ^ (digits n / 2)
 

@@ -41,7 +41,7 @@ most = 4294967295
 abbrev pub capped : ℕ → ℕ
 capped r = cond (ltb most r) most r
 
--- the start: one more than two steps from the power of two that has half of n's digits
+-- the start: one more than two steps from 2 to the power of half of n's digits
 unfoldable pub start : ℕ → ℕ
 start n = capped (step n (step n (2 ^ (digits n / 2))) + 1)
 

@@ -44,8 +44,8 @@ fn step(x: u64, r: u64) -> u64
     (r + x / r) / 2
 }
 
-// Where the loop starts: one more than two steps from the power of two that has half of x's digits, the first of which is a shift. That is above the
-// root by so little that one turn is left nearly always, which the processor foresees.
+// Where the loop starts: one more than two steps from 2 to the power of half of x's digits, the first of which is a shift. That is above the root by
+// so little that one turn is left nearly always, which the processor foresees.
 fn start(x: u64) -> u64
     requires { ⌜ 0 < x ⌝ }
     ensures { λ r. ⌜ r ≡ startOf x ⌝ }

@@ -47,7 +47,7 @@ fn combined(win: &[i32], w: [i32; 12], i: usize) -> i32
 }
 
 // The window in parts: the six parts of c and s, each for the twelve numbers of a set. Those stand side by side, so that the compiler takes several at a
-// time, and multiplies by nothing.
+// time; shares from −2 to 2 leave it nothing to multiply.
 fn folded(win: &[i32]) -> [i32; 72]
     requires { ⌜ WindowInput (now win) ⌝ }
     ensures { λ r. ⌜ Folds (now (win .entry)) r ⌝ }
