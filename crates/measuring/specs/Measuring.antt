@@ -1,4 +1,5 @@
 -- What is measured of a full window (document 01, "Amplitudes" and "Characteristic and trip").
+use mathlib.Core.Path.{_≡_}
 use mathlib.Core.Bool.{Bool, _&&_, _||_, cond}
 use mathlib.Core.List.{List}
 use Prim.Native.Nat.{ℕ, zero, suc, _+_}
@@ -65,3 +66,8 @@ readingOf v win l =
 
 unfoldable pub readingsOf : Setting → List ℤ → Readings
 readingsOf v win = record { a = readingOf v win sysA; b = readingOf v win sysB; c = readingOf v win sysC }
+
+-- from its currents: the readings of any window that has them
+abbrev pub ReadingsBy : Setting → (a b c : Currents) → Readings → Type 0
+ReadingsBy v a b c r =
+    (win : List ℤ) → a ≡ currentsOf (v .ends) win sysA → b ≡ currentsOf (v .ends) win sysB → c ≡ currentsOf (v .ends) win sysC → r ≡ readingsOf v win

@@ -6,9 +6,9 @@ ghost use Prim.Native.Nat.{_*_, _≤_};
 ghost use lib.IntN.{_-ℤ_};
 ghost use Rattle.matching.specs.Sets.{system};
 ghost use Rattle.characteristic.specs.Characteristic.{starts as startsOf, commonOn};
-ghost use Rattle.measuring.specs.Folded.{combined as combinedOf, Folds, partAt, overEnds, FirstOf, restraintBy, currentsBy};
+ghost use Rattle.measuring.specs.Folded.{combined as combinedOf, Folds, partAt, overEnds, FirstOf, restraintBy, currentsWith, currentsBy};
 ghost use Rattle.measuring.specs.Folded.{CombinedInput, PlaceInput, OverInput};
-ghost use Rattle.measuring.specs.Measuring.{start, readingsOf};
+ghost use Rattle.measuring.specs.Measuring.{start, readingsOf, ReadingsBy};
 ghost use Rattle.measuring.specs.Holding.{CommonBlocking};
 ghost use Rattle.measuring.specs.WindowInput.{WindowInput, Measurable, SystemInput};
 use characteristic::Currents;
@@ -139,10 +139,10 @@ fn twice_restraint(ends: u8, f: &[i32], y: usize) -> u32
     r
 }
 
-// D, R, H2 and H5 of system y.
-fn system_currents(ends: u8, f: &[i32], y: usize) -> Currents
+// D, H2 and H5 of system y, and the given R.
+fn currents_with(ends: u8, f: &[i32], y: usize, r: u32) -> Currents
     requires { ⌜ OverInput (now f) ends 0 y ⌝ }
-    ensures { λ r. ⌜ r ≡ currentsBy ends (now (f .entry)) y ⌝ }
+    ensures { λ x. ⌜ x ≡ currentsWith ends (now (f .entry)) y r ⌝ }
 {
     let c = over_ends(f, ends, 0, y);
     let c3 = over_ends(f, ends, 1, y);
@@ -152,10 +152,18 @@ fn system_currents(ends: u8, f: &[i32], y: usize) -> Currents
     let s2 = over_ends(f, ends, 5, y);
     Currents {
         d: amplitude::amplitude(c, c3, s, s3),
-        r: twice_restraint(ends, f, y),
+        r: r,
         h2: amplitude::amplitude(c2, 0, 0, s2),
         h5: amplitude::amplitude(c, 0 - c3, s, 0 - s3),
     }
+}
+
+// D, R, H2 and H5 of system y.
+fn system_currents(ends: u8, f: &[i32], y: usize) -> Currents
+    requires { ⌜ OverInput (now f) ends 0 y ⌝ }
+    ensures { λ r. ⌜ r ≡ currentsBy ends (now (f .entry)) y ⌝ }
+{
+    currents_with(ends, f, y, twice_restraint(ends, f, y))
 }
 
 // Whether system y starts.
@@ -204,6 +212,22 @@ fn system_reading(v: Setting, c: Currents, own: bool, any: bool) -> Reading
     }
 }
 
+// What is measured of the three systems, from their currents.
+fn readings_by(v: Setting, a: Currents, b: Currents, c: Currents) -> Readings
+    requires { ⌜ v .thresholds .basic ≤ 2 * v .thresholds .knee ⌝ }
+    ensures { λ r. ⌜ ReadingsBy v a b c r ⌝ }
+{
+    let by_a = characteristic::blocking(v, a);
+    let by_b = characteristic::blocking(v, b);
+    let by_c = characteristic::blocking(v, c);
+    let any = common(v, by_a, by_b, by_c);
+    Readings {
+        a: system_reading(v, a, by_a.own, any),
+        b: system_reading(v, b, by_b.own, any),
+        c: system_reading(v, c, by_c.own, any),
+    }
+}
+
 // What is measured of the three systems over a full window.
 pub fn measure(v: Setting, win: &[i32]) -> Readings
     requires { ⌜ Measurable v (now win) ⌝ }
@@ -214,15 +238,7 @@ pub fn measure(v: Setting, win: &[i32]) -> Readings
     let a = system_currents(ends, &f, 0);
     let b = system_currents(ends, &f, 1);
     let c = system_currents(ends, &f, 2);
-    let by_a = characteristic::blocking(v, a);
-    let by_b = characteristic::blocking(v, b);
-    let by_c = characteristic::blocking(v, c);
-    let any = common(v, by_a, by_b, by_c);
-    Readings {
-        a: system_reading(v, a, by_a.own, any),
-        b: system_reading(v, b, by_b.own, any),
-        c: system_reading(v, c, by_c.own, any),
-    }
+    readings_by(v, a, b, c)
 }
 
 // Which systems hold back others (02, card 4): no code, the statement and its proof.

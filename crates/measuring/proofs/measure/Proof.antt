@@ -1,18 +1,7 @@
--- `measuring::measure` meets its contract: each system's currents, and what its harmonics hold back, are those of the definitions, so its reading is.
+-- `measuring::measure` meets its contract: each system's currents are those of the definitions, so what is read of them is.
 use borrow.Author.Needs.{needs}
-use mathlib.Core.Path.{_≡_, sym, _∙_}
-use mathlib.Core.Bool.{Bool, _&&_, _||_}
-use mathlib.Core.List.{List}
-use Prim.Native.Nat.{_*_, _≤_}
+use mathlib.Core.Path.{sym, _∙_}
 use native.Mathlib.Omega.{arith}
-use lib.IntN.{ℤ}
-use Rattle.setting.specs.declared.Setting.{Setting}
-use Rattle.matching.specs.Sets.{System, sysA, sysB, sysC}
-use Rattle.characteristic.specs.declared.Currents.{Currents}
-use Rattle.characteristic.specs.declared.Held.{Held}
-use Rattle.characteristic.specs.Characteristic.{starts, heldBy, commonOn}
-use Rattle.measuring.specs.declared.Reading.{Reading}
-use Rattle.measuring.specs.Measuring.{harmonics, holding, blocked, currentsOf, readingOf, readingsOf}
 use Rattle.measuring.proofs.PartLaws.{currents-are}
 use Rattle.measuring.proofs.measure.Statement.{statement}
 use Rattle.measuring.proofs.measure.Tie as tie
@@ -38,89 +27,24 @@ slice-aggregate-system-currents-3 c = sym (c .before .before .before .before .be
 system-currents-requires-3 : tie.Need-system-currents-requires-3
 system-currents-requires-3 c κs = search needs
 
-blocking-requires : tie.Need-blocking-requires
-blocking-requires c κs = search needs
-
-blocking-requires-2 : tie.Need-blocking-requires-2
-blocking-requires-2 c κs = search needs
-
-blocking-requires-3 : tie.Need-blocking-requires-3
-blocking-requires-3 c κs = search needs
-
-common-requires : tie.Need-common-requires
-common-requires c κs = search needs
-
--- what is known of the setting
-abbrev start : tie.After-common → tie.Start
-start c = c .before .before .before .before .before .before .before .before .before .before .before
-
-sections : (c : tie.After-common) → start c .args .v .thresholds .basic ≤ 2 * start c .args .v .thresholds .knee
-sections c = start c .pre .sections
-
-system-reading-requires : tie.Need-system-reading-requires
-system-reading-requires c κs = sections c
-
-system-reading-requires-2 : tie.Need-system-reading-requires-2
-system-reading-requires-2 c κs = sections (c .before)
-
-system-reading-requires-3 : tie.Need-system-reading-requires-3
-system-reading-requires-3 c κs = sections (c .before .before)
-
--- a system's currents are those of the definitions, so what its harmonics hold back and its reading are
-module _ (v : Setting) (win : List ℤ) (l : System) {cur : Currents} (e : cur ≡ currentsOf (v .ends) win l) where
-  own-is : {b : Held} → b ≡ heldBy v (cur .d) (cur .h2) (cur .h5) → b .own ≡ harmonics v win l
-  unfolding currentsOf heldBy harmonics
-  own-is h = rw (h, e)
-
-  others-is : {b : Held} → b ≡ heldBy v (cur .d) (cur .h2) (cur .h5) → b .others ≡ holding v win l
-  unfolding currentsOf heldBy holding
-  others-is h = rw (h, e)
-
-  reading-is : {b : Bool} {r : Reading} → b ≡ blocked v win l →
-      r ≡ record { d = cur .d; r = cur .r; h2 = cur .h2; h5 = cur .h5; start = starts v (cur .d) (cur .r); blocked = b } → r ≡ readingOf v win l
-  unfolding currentsOf readingOf
-  reading-is k h = h ∙ rw (e, k)
-
--- and so is its blocking
-blocked-is : (v : Setting) (win : List ℤ) {a b c any : Bool} → a ≡ holding v win sysA → b ≡ holding v win sysB → c ≡ holding v win sysC →
-    any ≡ (commonOn v && (a || (b || c))) → (l : System) (own : Bool) → own ≡ harmonics v win l → (own || any) ≡ blocked v win l
-unfolding blocked
-blocked-is v win by-a by-b by-c e l own h = rw (h, e, by-a, by-b, by-c)
+readings-by-requires : tie.Need-readings-by-requires
+readings-by-requires c κs = search needs
 
 returns : tie.Need-returns
-unfolding readingsOf
 returns c =
-    let all = c .before .before .before in
-    let by-c = all .before in
-    let by-b = by-c .before in
-    let by-a = by-b .before in
-    let third = by-a .before in
+    let third = c .before in
     let second = third .before .before in
     let first = second .before .before in
     let parts = first .before .before in
-    let v = parts .before .args .v in
-    let win = parts .before .args .win .now in
     let four = parts .before .pre .ends .four in
     let folds = parts .folded .ensures in
-    let a = first .system-currents .ensures ∙ currents-are folds 0 (omega arith) _ four in
-    let b = second .system-currents2 .ensures ∙ currents-are folds 1 (omega arith) _ four in
-    let d = third .system-currents3 .ensures ∙ currents-are folds 2 (omega arith) _ four in
-    let is =
-    blocked-is v win
-    (others-is v win sysA a (by-a .blocking .ensures))
-    (others-is v win sysB b (by-b .blocking2 .ensures))
-    (others-is v win sysC d (by-c .blocking3 .ensures))
-    (all .common .ensures)
-    in
-    rw (
-      reading-is v win sysA a (is sysA _ (own-is v win sysA a (by-a .blocking .ensures))) (c .before .before .system-reading .ensures),
-      reading-is v win sysB b (is sysB _ (own-is v win sysB b (by-b .blocking2 .ensures))) (c .before .system-reading2 .ensures),
-      reading-is v win sysC d (is sysC _ (own-is v win sysC d (by-c .blocking3 .ensures))) (c .system-reading3 .ensures),
-    )
+    c .readings-by .ensures (parts .before .args .win .now)
+    (first .system-currents .ensures ∙ currents-are folds 0 (omega arith) _ four)
+    (second .system-currents2 .ensures ∙ currents-are folds 1 (omega arith) _ four)
+    (third .system-currents3 .ensures ∙ currents-are folds 2 (omega arith) _ four)
 
 pub measure-spec : {M : Type 1} → statement M
 measure-spec =
     tie.close
     (tie.spec folded-requires slice-aggregate-system-currents system-currents-requires slice-aggregate-system-currents-2 system-currents-requires-2
-    slice-aggregate-system-currents-3 system-currents-requires-3 blocking-requires blocking-requires-2 blocking-requires-3 common-requires
-    system-reading-requires system-reading-requires-2 system-reading-requires-3 returns)
+    slice-aggregate-system-currents-3 system-currents-requires-3 readings-by-requires returns)
