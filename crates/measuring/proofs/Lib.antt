@@ -1,4 +1,5 @@
 -- Laws that more than one proof cites.
 mod PartLaws
+mod EndLaws
 mod Holding
 pub mod Negated

@@ -205,7 +205,7 @@ module _ {win f : List ℤ} (h : Folds win f) (y : ℕ) (l : y < 3) where
       rw (of-end p 0 lp (omega arith), of-end p 1 lp (omega arith)) (sym (part-minus p (series win 0 (system y)) (series win 1 (system y))))
 
   -- so are the amplitudes
-  first-at : (z : ℕ) → z < 4 → firstBy (λ p. partAt f p z y) ≡ amplitude 1 (series win z (system y))
+  pub first-at : (z : ℕ) → z < 4 → firstBy (λ p. partAt f p z y) ≡ amplitude 1 (series win z (system y))
   first-at z lz =
       rw (of-end 0 z (omega arith) lz, of-end 1 z (omega arith) lz, of-end 2 z (omega arith) lz, of-end 3 z (omega arith) lz)
       (sym (first-by-parts (series win z (system y))))

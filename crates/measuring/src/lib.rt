@@ -2,13 +2,14 @@
 
 ghost use mathlib.Core.Path.{_≡_};
 ghost use mathlib.Core.Bool.{_&&_, _||_};
-ghost use Prim.Native.Nat.{_*_, _≤_};
+ghost use Prim.Native.Nat.{_*_, _≤_, max};
 ghost use lib.IntN.{_-ℤ_};
 ghost use Rattle.matching.specs.Sets.{system};
 ghost use Rattle.characteristic.specs.Characteristic.{starts as startsOf, commonOn};
 ghost use Rattle.measuring.specs.Folded.{combined as combinedOf, Folds, partAt, overEnds, FirstOf, restraintBy, currentsWith, currentsBy};
 ghost use Rattle.measuring.specs.Folded.{CombinedInput, PlaceInput, OverInput};
 ghost use Rattle.measuring.specs.Measuring.{start, readingsOf, ReadingsBy};
+ghost use Rattle.measuring.specs.Largest.{MeasuresEnds, AmplitudesOf, EndsInput, largestBy};
 ghost use Rattle.measuring.specs.Holding.{CommonBlocking};
 ghost use Rattle.measuring.specs.WindowInput.{WindowInput, Measurable, SystemInput};
 use characteristic::Currents;
@@ -30,6 +31,12 @@ pub struct Readings {
     pub a: Reading,
     pub b: Reading,
     pub c: Reading,
+}
+
+// What is measured of the three systems, and of each end the largest amplitude of its systems, 0 at an end that is not in use.
+pub struct WithEnds {
+    pub readings: Readings,
+    pub largest: [u32; 4],
 }
 
 // The sum of number i of each set, each times its share w.
@@ -239,6 +246,78 @@ pub fn measure(v: Setting, win: &[i32]) -> Readings
     let b = system_currents(ends, &f, 1);
     let c = system_currents(ends, &f, 2);
     readings_by(v, a, b, c)
+}
+
+// The h = 1 amplitude of each end of system y, 0 at an end that is not in use.
+fn amplitudes(ends: u8, f: &[i32], y: usize) -> [u32; 4]
+    requires { ⌜ OverInput (now f) ends 0 y ⌝ }
+    ensures { λ r. ⌜ AmplitudesOf ends (now (f .entry)) y r ⌝ }
+{
+    let n = ends as usize;
+    let mut a = [0u32; 4];
+    let mut z: usize = 0;
+    while z < n {
+        a[z] = end_amplitude(f, z, y);
+        z += 1;
+    }
+    a
+}
+
+// R, from the amplitudes of the ends; with two ends it is not made of them.
+fn restraint_from(ends: u8, f: &[i32], y: usize, a: [u32; 4]) -> u32
+    requires { ⌜ EndsInput (now f) ends y a ⌝ }
+    ensures { λ r. ⌜ r ≡ restraintBy ends (now (f .entry)) y ⌝ }
+{
+    if ends == 2 {
+        return twice_restraint(ends, f, y);
+    }
+    a[0] + a[1] + a[2] + a[3]
+}
+
+// D, R, H2 and H5 of system y, whose ends have the amplitudes a.
+fn currents_from(ends: u8, f: &[i32], y: usize, a: [u32; 4]) -> Currents
+    requires { ⌜ EndsInput (now f) ends y a ⌝ }
+    ensures { λ r. ⌜ r ≡ currentsBy ends (now (f .entry)) y ⌝ }
+{
+    currents_with(ends, f, y, restraint_from(ends, f, y, a))
+}
+
+fn larger(a: u32, b: u32) -> u32
+    ensures { λ r. ⌜ r ≡ max a b ⌝ }
+{
+    if a < b { b } else { a }
+}
+
+// At each end, the largest of three systems' amplitudes.
+fn largest(a: [u32; 4], b: [u32; 4], c: [u32; 4]) -> [u32; 4]
+    ensures { λ r. ⌜ r ≡ largestBy a b c ⌝ }
+{
+    let mut r = [0u32; 4];
+    let mut z: usize = 0;
+    while z < 4 {
+        r[z] = larger(a[z], larger(b[z], c[z]));
+        z += 1;
+    }
+    r
+}
+
+// What is measured with the ends' amplitudes; those that R is made of are worked out once.
+pub fn measure_ends(v: Setting, win: &[i32]) -> WithEnds
+    requires { ⌜ Measurable v (now win) ⌝ }
+    ensures { λ r. ⌜ MeasuresEnds v (now (win .entry)) r ⌝ }
+{
+    let ends = v.ends;
+    let f = folded(win);
+    let of_a = amplitudes(ends, &f, 0);
+    let of_b = amplitudes(ends, &f, 1);
+    let of_c = amplitudes(ends, &f, 2);
+    let a = currents_from(ends, &f, 0, of_a);
+    let b = currents_from(ends, &f, 1, of_b);
+    let c = currents_from(ends, &f, 2, of_c);
+    WithEnds {
+        readings: readings_by(v, a, b, c),
+        largest: largest(of_a, of_b, of_c),
+    }
 }
 
 // Which systems hold back others (02, card 4): no code, the statement and its proof.
