@@ -1,0 +1,95 @@
+-- Laws of an end's sum and trip at a measured set: that sums stay within, and what becomes of the four ends.
+use mathlib.Core.Path.{_≡_, refl, sym, subst}
+use mathlib.Core.Bool.{Bool, true, false, not, _&&_, cond, and-false}
+use mathlib.Core.List.{List}
+use Prim.Native.Nat.{ℕ, zero, suc, _+_, _≤_, _<_, min}
+use native.Mathlib.Omega.{arith}
+use lib.Dec.{T, ltb, leb, eqb, leb→le, le→leb}
+use lib.ListN.{getD}
+use borrow.Author.Tests.{ltb-true, lt-ltb}
+use Rattle.lists.specs.Tests.{hold, none, _&_}
+use Rattle.lists.proofs.TestLaws.{hold-at, hold-of, is-true}
+use Rattle.overcurrent.specs.declared.Backup.{Backup}
+use Rattle.overcurrent.specs.declared.Timer.{Timer}
+use Rattle.overcurrent.specs.Curves.{Curve, curveOf}
+use Rattle.overcurrent.specs.Timers.{multiple, mostSum, growth, sumAfter, timerAfter, idle}
+use Rattle.overcurrent.specs.Timers.{timerOf, perEnd, timed, backupAfter, sumsWithin, TimerInput, BackupInput}
+
+-- ---- one end, after a measured set
+
+-- a cleared sum stays so below 11
+pub idle-stays : (c : Curve) (j : ℕ) → j < 11 → timerAfter c j idle ≡ idle
+unfolding timerAfter sumAfter
+idle-stays c j h = rw (lt-ltb j 11 h)
+
+sum-stays-within : (c : Curve) (j : ℕ) (t : Timer) → timerAfter c j t .sum ≤ mostSum
+unfolding timerAfter sumAfter
+sum-stays-within c j t = by (ltb j 11)
+  where
+    by : (u : Bool) → cond u 0 (min mostSum (t .sum + growth c j)) ≤ mostSum
+    by true = omega arith
+    by false = omega arith
+
+-- ---- the four ends, by themselves and after a measured set
+
+-- no sum above the most
+pub sum-within : (b : Backup) → T (hold (sumsWithin b)) → (z : ℕ) → timerOf b z .sum ≤ mostSum
+sum-within b h zero = leb→le _ _ (hold-at (sumsWithin b) h 0)
+sum-within b h (suc zero) = leb→le _ _ (hold-at (sumsWithin b) h 1)
+sum-within b h (suc (suc zero)) = leb→le _ _ (hold-at (sumsWithin b) h 2)
+sum-within b h (suc (suc (suc zero))) = leb→le _ _ (hold-at (sumsWithin b) h 3)
+sum-within b h (suc (suc (suc (suc z)))) = omega arith
+
+pub input-of : {curve X : ℕ} {A : List ℕ} {b : Backup} → BackupInput curve X A b → (z : ℕ) → TimerInput X (getD A z 0) (timerOf b z)
+input-of {b = b} p z = record { pickup = p .pickup; small = p .small z; sum = sum-within b (p .sums) z }
+
+pub within-idle : hold (sumsWithin (perEnd (λ z. idle))) ≡ true
+within-idle = refl
+
+module _ (E curve X : ℕ) (A : ℕ → ℕ) (b : Backup) where
+  -- what becomes of an end
+  abbrev pub after : ℕ → Timer
+  after z = cond (timed E curve z) (timerAfter (curveOf curve) (multiple X (A z)) (timerOf b z)) (timerOf b z)
+
+  pub timer-after : (z : ℕ) → z < 4 → timerOf (backupAfter E curve X A b) z ≡ after z
+  unfolding backupAfter
+  timer-after zero l = refl
+  timer-after (suc zero) l = refl
+  timer-after (suc (suc zero)) l = refl
+  timer-after (suc (suc (suc zero))) l = refl
+  timer-after (suc (suc (suc (suc z)))) l = absurd (omega arith)
+
+  -- at curve 0 none moves
+  pub after-off : eqb curve 0 ≡ true → backupAfter E curve X A b ≡ b
+  unfolding backupAfter
+  after-off e = rw e
+
+  pub within-after : hold (sumsWithin b) ≡ true → hold (sumsWithin (backupAfter E curve X A b)) ≡ true
+  unfolding backupAfter
+  within-after h = is-true (hold-of {bs = sumsWithin (backupAfter E curve X A b)} (end 0 & end 1 & end 2 & end 3 & none))
+    where
+      by : (u : Bool) (s t : Timer) → s .sum ≤ mostSum → t .sum ≤ mostSum → cond u s t .sum ≤ mostSum
+      by true s t k l = k
+      by false s t k l = l
+
+      end : (z : ℕ) → T (leb (after z .sum) mostSum)
+      end z =
+          le→leb _ _
+          (by (timed E curve z) _ (timerOf b z) (sum-stays-within (curveOf curve) (multiple X (A z)) (timerOf b z)) (sum-within b (subst T (sym h) tt) z))
+
+pub after-0 : (E X : ℕ) (A : ℕ → ℕ) (b : Backup) → backupAfter E 0 X A b ≡ b
+after-0 E X A b = after-off E 0 X A b refl
+
+-- only the amplitudes of the first E ends are looked at
+pub after-same : (E curve X : ℕ) (A A′ : ℕ → ℕ) (b : Backup) → ((z : ℕ) → z < E → A z ≡ A′ z) → backupAfter E curve X A b ≡ backupAfter E curve X A′ b
+unfolding backupAfter
+after-same E curve X A A′ b same = cc (end 0, end 1, end 2, end 3)
+  where
+    end : (z : ℕ) → after E curve X A b z ≡ after E curve X A′ b z
+    end z = by (ltb z E) refl
+      where
+        by : (u : Bool) → ltb z E ≡ u →
+            cond (not (eqb curve 0) && u) (timerAfter (curveOf curve) (multiple X (A z)) (timerOf b z)) (timerOf b z)
+            ≡ cond (not (eqb curve 0) && u) (timerAfter (curveOf curve) (multiple X (A′ z)) (timerOf b z)) (timerOf b z)
+        by true e = rw (same z (ltb-true z E e))
+        by false e = rw (and-false (not (eqb curve 0)))

@@ -1,0 +1,162 @@
+// Backup overcurrent: the inverse-time element of each end, its sum and its trip.
+
+pub mod curves;
+
+ghost use mathlib.Core.Path.{_≡_};
+ghost use mathlib.Core.Bool.{cond};
+ghost use Prim.Native.Nat.{_≤_};
+ghost use lib.ListN.{getD};
+ghost use Rattle.lists.specs.Tests.{hold};
+ghost use Rattle.overcurrent.specs.Curves.{curveOf};
+ghost use Rattle.overcurrent.specs.Timers.{multiple as multipleOf, mostSum, sumAfter, timerAfter, idle, perEnd, backupAfter};
+ghost use Rattle.overcurrent.specs.Timers.{tripsOf, sumsWithin, TimerInput, BackupInput};
+ghost use Rattle.overcurrent.specs.Rows.{SummedInARow, TrippedInARow};
+ghost use Rattle.overcurrent.specs.Planning.{PickUp, Unmoved, HeldTrips};
+
+// The sum and the trip of an end, and those of the four.
+pub struct Timer {
+    pub sum: u32,
+    pub trip: bool,
+}
+
+pub struct Backup {
+    pub e0: Timer,
+    pub e1: Timer,
+    pub e2: Timer,
+    pub e3: Timer,
+}
+
+// Which ends have tripped.
+pub struct Trips {
+    pub e0: bool,
+    pub e1: bool,
+    pub e2: bool,
+    pub e3: bool,
+}
+
+// j, the multiple of the pick-up in tenths: at most 200.
+fn multiple(pickup: u16, a: u32) -> u32
+    requires { ⌜ (1 ≤ pickup) × (a ≤ 32000000) ⌝ }
+    ensures { λ r. ⌜ r ≡ multipleOf pickup a ⌝ }
+{
+    let j = 10 * a / (pickup as u32);
+    if 200 < j { 200 } else { j }
+}
+
+// The sum of an end in use after a measured set.
+fn sum_after(curve: u8, j: u32, sum: u32) -> u32
+    requires { ⌜ (j ≤ 200) × (sum ≤ mostSum) ⌝ }
+    ensures { λ r. ⌜ r ≡ sumAfter (curveOf curve) j sum ⌝ }
+{
+    if j < 11 {
+        return 0;
+    }
+    let grown = sum + 1000000000 / curves::entry(curve, j);
+    if grown < 1000000000 {
+        grown
+    } else {
+        1000000000
+    }
+}
+
+// Its sum and its trip.
+fn timer_after(curve: u8, pickup: u16, a: u32, t: Timer) -> Timer
+    requires { ⌜ TimerInput pickup a t ⌝ }
+    ensures { λ r. ⌜ r ≡ timerAfter (curveOf curve) (multipleOf pickup a) t ⌝ }
+{
+    let j = multiple(pickup, a);
+    let sum = sum_after(curve, j, t.sum);
+    if t.trip {
+        return Timer {
+            sum: sum,
+            trip: true,
+        };
+    }
+    Timer {
+        sum: sum,
+        trip: sum == 1000000000,
+    }
+}
+
+// The same where the end is in use; else sum and trip stay.
+fn end_after(used: bool, curve: u8, pickup: u16, a: u32, t: Timer) -> Timer
+    requires { ⌜ TimerInput pickup a t ⌝ }
+    ensures { λ r. ⌜ r ≡ cond used (timerAfter (curveOf curve) (multipleOf pickup a) t) t ⌝ }
+{
+    if used {
+        timer_after(curve, pickup, a, t)
+    } else {
+        t
+    }
+}
+
+// Those of the four ends after a measured set, the curve not 0.
+pub fn backup_after(ends: u8, curve: u8, pickup: u16, largest: [u32; 4], b: Backup) -> Backup
+    requires { ⌜ BackupInput curve pickup largest b ⌝ }
+    ensures { λ r. ⌜ r ≡ backupAfter ends curve pickup (λ z. getD largest z 0) b ⌝ }
+{
+    let t0 = b.e0;
+    let t1 = b.e1;
+    let t2 = b.e2;
+    let t3 = b.e3;
+    Backup {
+        e0: end_after(0 < ends, curve, pickup, largest[0], t0),
+        e1: end_after(1 < ends, curve, pickup, largest[1], t1),
+        e2: end_after(2 < ends, curve, pickup, largest[2], t2),
+        e3: end_after(3 < ends, curve, pickup, largest[3], t3),
+    }
+}
+
+// Sums and trips that are clear.
+pub fn untripped() -> Backup
+    ensures { λ r. ⌜ r ≡ perEnd (λ z. idle) ⌝ }
+{
+    let idle = Timer {
+        sum: 0,
+        trip: false,
+    };
+    Backup {
+        e0: idle,
+        e1: idle,
+        e2: idle,
+        e3: idle,
+    }
+}
+
+// No sum above 1,000,000,000.
+pub fn within(b: Backup) -> bool
+    ensures { λ ok. ⌜ ok ≡ hold (sumsWithin b) ⌝ }
+{
+    if 1000000000 < b.e0.sum {
+        return false;
+    }
+    if 1000000000 < b.e1.sum {
+        return false;
+    }
+    if 1000000000 < b.e2.sum {
+        return false;
+    }
+    b.e3.sum <= 1000000000
+}
+
+// The trips of the four ends.
+pub fn tripped(b: Backup) -> Trips
+    ensures { λ r. ⌜ r ≡ tripsOf b ⌝ }
+{
+    Trips {
+        e0: b.e0.trip,
+        e1: b.e1.trip,
+        e2: b.e2.trip,
+        e3: b.e3.trip,
+    }
+}
+
+// The sum and the trip over any number of measured sets, by those in a row: no code, the statements and their proofs.
+pub fn in_a_row()
+    ensures { λ _. ⌜ SummedInARow × TrippedInARow ⌝ }
+{}
+
+// What a planner asks of a pick-up and a curve: no code, the statements and their proofs.
+pub fn planning()
+    ensures { λ _. ⌜ PickUp × (Unmoved × HeldTrips) ⌝ }
+{}
