@@ -276,6 +276,18 @@ static void full_blocks(struct stream *x, int wanted)
     }
 }
 
+/* The same with elements that trip by overcurrent, of which nothing is shown (02,
+ * card 6). */
+static void overcurrent(struct stream *x, int wanted)
+{
+    struct setting s = plain_setting;
+
+    full_blocks(x, wanted);
+    s.overcurrent = 200;
+    s.curve = 2;
+    lay_setting(&s, x->bytes);
+}
+
 /* The largest D: four ends of factor 16, and full samples that turn about
  * every six sets. */
 static void largest(struct stream *x, int wanted)
@@ -344,7 +356,7 @@ static void damage(struct draw *d, uint8_t *block)
  * damage, or a field one past its range. */
 static void draw_setting_block(struct draw *d, struct setting *s, uint8_t *block)
 {
-    const struct field *f = &FIELD[draw_from(d, 0, FIELDS - 1)];
+    const struct field *f = &FIELD[draw_from(d, 0, PLAIN_FIELDS - 1)];
     int64_t kind = draw_from(d, 0, 11);
     size_t offset;
 
@@ -452,6 +464,7 @@ static const struct {
     {"last-set-11", refused_last, 11},
     {"no-sets", no_sets, 0},
     {"full-blocks", full_blocks, 0},
+    {"overcurrent", overcurrent, 0},
     {"largest", largest, 0},
     {"unloaded", unloaded, 0},
 };

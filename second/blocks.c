@@ -16,12 +16,13 @@ struct trial {
     size_t length;
 };
 
-/* A sound block that both readers accept. */
+/* A sound block that both readers accept, of each curve. */
 static void sound(struct draw *d, struct trial *t)
 {
     struct setting s;
 
     draw_setting(d, (uint8_t)draw_from(d, 2, 4), &s);
+    draw_overcurrent(d, (uint8_t)draw_from(d, 0, CURVES), &s);
     lay_setting(&s, t->bytes);
 }
 
@@ -31,6 +32,7 @@ static void wide(struct draw *d, struct trial *t)
     struct setting s;
 
     draw_wide_setting(d, &s);
+    draw_overcurrent(d, (uint8_t)draw_from(d, 0, CURVES), &s);
     lay_setting(&s, t->bytes);
 }
 
@@ -73,7 +75,7 @@ static void field_edge(struct draw *d, struct trial *t, size_t sweep)
 static void spare_byte(struct draw *d, struct trial *t, size_t sweep)
 {
     static const size_t spare[9] = {7, 22, 23, 34, 35, 46, 47, 58, 59};
-    size_t at = sweep % 445 < 436 ? 74 + sweep % 445 : spare[sweep % 445 - 436];
+    size_t at = sweep % 442 < 433 ? 77 + sweep % 442 : spare[sweep % 442 - 433];
 
     if (sweep % 7 == 3)
         at = 36 + sweep / 7 % 24;

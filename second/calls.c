@@ -12,8 +12,11 @@
  * lines, `start N`, `write N` and `short N`; the record stays as it is. A setting
  * block that is refused leaves no relay, and what comes then is passed over up to
  * the next setting block. Where setting, start or writer answer 5, a space and the
- * offset come behind it. Some records come once more with every sample negated:
- * the answers must be the same. */
+ * offset come behind it. A cycle block holds twelve sets of two bytes a number from
+ * byte 4 on, and in bytes 292 to 295 how many sample calls it makes: they go through
+ * these sets over and over, and their lines are short: of a measured set `H`, its
+ * overcurrent trips as one number, and the four sums. Some records come once more
+ * with every sample negated: the answers must be the same. */
 #include "parts.h"
 
 #include <stdarg.h>
@@ -31,21 +34,27 @@
 #define UNSOUND 36          /* records of values with any wrong */
 #define UNSOUND_CASES 12    /* times that values are made wrong in such a record */
 #define COMMON 24           /* records of common blocking, with a draw of their own */
+#define OVER 40             /* records of overcurrent, with a draw of their own */
+#define STEADY 38           /* values of j at which there are runs */
 #define LIMITS (RECORDS + ROUNDS)
 #define FAULTY_FROM (LIMITS + 1 + WATCHED)
 #define VALUES_FROM (FAULTY_FROM + FAULTY)
 #define COMMON_FROM (VALUES_FROM + PAIRED + UNSOUND)
-#define ALL_RECORDS (COMMON_FROM + COMMON)
+#define OVER_FROM (COMMON_FROM + COMMON)
+#define RUNS_FROM (OVER_FROM + OVER)
+#define LONG_FROM (RUNS_FROM + CURVES * STEADY)
+#define ALL_RECORDS (LONG_FROM + CURVES)
 #define MOST_BLOCKS 250
 #define MOST_TEXT 65536     /* that a record's answers take */
 #define TURNED 11           /* one of so many records of calls comes turned too */
 #define PAGE_CALLS 42       /* that a page block can hold */
 #define PAGE_CALL_BYTES 12
-#define PLACES 471          /* fields of refusal 5 in a block, spare bytes too */
-#define NEAR_PLACES 35      /* of them in the first 74 bytes */
-#define NUMBERS 26          /* of them not spare bytes */
+#define PLACES 470          /* fields of refusal 5 in a block, spare bytes too */
+#define NEAR_PLACES 37      /* of them in the first 77 bytes */
+#define NUMBERS 28          /* of them not spare bytes */
 #define MOST_FAULTS 6       /* fields made wrong at once */
 #define BEGIN_KIND 0x42
+#define CYCLE_KIND 0x43
 #define PAGE_KIND 0x47
 #define LIST_KIND 0x4C
 #define PRINT_KIND 0x50
@@ -54,14 +63,14 @@
 #define SETTING_KIND 0x54
 #define VIEW_KIND 0x56
 
-enum scene_kind { HEALTHY, FAULT, INRUSH, BURSTS, NOISE, LONE };
+enum scene_kind { HEALTHY, FAULT, INRUSH, BURSTS, NOISE, LONE, LOADS };
 
 /* One record: its blocks, whether all its sets are a healthy bank's, and
  * whether the relay record came through each refusal 12 and each begin block as it
- * was. */
+ * was; and of a run the number of the measured set at which its element trips. */
 struct record {
     uint8_t block[MOST_BLOCKS][BLOCK_BYTES];
-    size_t blocks, calls, followed;
+    size_t blocks, calls, followed, trips_at;
     int healthy, kept;
 };
 
@@ -70,10 +79,12 @@ struct record {
  * how far byte 5 was seen: 1 at a zero, 2 at a one after it. And sets under common
  * blocking where document 01 holds back more systems than document 02, card 4, where
  * one of these trips, where one with harmonics has D at P, and where all are
- * blocked. */
+ * blocked. The lines of a run go out when there are many; of the sets that its cycle
+ * blocks measure, how many there are, and which is the first that shows a trip. */
 struct outcome {
     char text[MOST_TEXT];
-    size_t length;
+    size_t length, cycled, tripped_at;
+    int run;
     struct relay relay;
     unsigned measured, started, latched, paged, seen, common[4];
 };
@@ -81,7 +92,7 @@ struct outcome {
 /* Calls by what is asked, and what may be wrong with a record. */
 enum asked { SOUND_SET, UNSOUND_SET, NO_SET, RESET, ASKED };
 enum fault {
-    NONE, BREAKS_4, BREAKS_5, BREAKS_6, BREAKS_7, FILL, NUMBER, COUNTER, PAGE,
+    NONE, BREAKS_4, BREAKS_5, BREAKS_6, BREAKS_7, FILL, NUMBER, COUNTER, PAGE, SUM,
     FAULTS
 };
 
@@ -112,6 +123,18 @@ static struct {
     unsigned goes_on[2], beside[2], turns[2], changed[6];
 } paged;
 
+/* What a run has of overcurrent: elements by curve and j, below 11, 11, up to 199,
+ * 200 and above; elements that trip, by end; sums cleared and grown, of elements
+ * without a trip and with one; sums that come to the limit, and that are stopped
+ * there again; sums that stay at a refused set, while the window fills, at curve 0,
+ * and at an unused end; resets by call and by page with a sum, with a trip, and with
+ * either at an unused end; refusals 12 by a sum, of samples, resets and the page;
+ * and lines of cycle blocks: filling, refused and measured. */
+static struct {
+    unsigned tenths[CURVES][5], trips[MAX_ENDS], cleared[2], grown[2], limit[2];
+    unsigned stays[4], resets[2][3], declined[3], lines[3];
+} over;
+
 /* A setting is judged in a block, or by its values alone. For both, the fields of
  * refusal 5 in block order; values have no spare bytes. */
 enum judged { IN_BLOCK, IN_VALUES, JUDGED };
@@ -121,11 +144,12 @@ static struct field place[JUDGED][PLACES];
 /* What a run has of judged settings: answers by refusal; answers 5 by how many
  * fields are wrong, up to six, for 2, 3 and 4 ends by the first wrong field, and
  * by fields that are wrong together with the one before; where the first is of an
- * unused end, by its only byte that isn't zero, from 36 on; answers 5 where 6 or 7
- * would come otherwise; and answers that are not right. */
+ * unused end, by its only byte that isn't zero, from 36 on; where it is X at curve
+ * 0, X at another, or the curve, for 2, 3 and 4 ends; answers 5 where 6 or 7 would
+ * come otherwise; and answers that are not right. */
 static struct {
     unsigned refused[8], at_once[MOST_FAULTS + 1], first[3][PLACES], pair[3][PLACES];
-    unsigned lone[2][24], factors[2], wrong;
+    unsigned lone[2][24], over[3][3], factors[2], wrong;
 } faulty[JUDGED];
 
 /* How fields are made wrong: one below the range, one above, all ones, by one
@@ -134,6 +158,12 @@ static struct {
 static struct {
     unsigned how[5], byte[4], beside[4], passed;
 } made;
+
+/* The lines that were written down. */
+static int put_text(const struct outcome *out)
+{
+    return fwrite(out->text, 1, out->length, stdout) == out->length;
+}
 
 /* Writes a part of an answer down; nowhere while a record is only followed. */
 static struct outcome *heard;
@@ -147,6 +177,8 @@ static void say(const char *format, ...)
     heard->length += (size_t)vsnprintf(heard->text + heard->length,
                                        MOST_TEXT - heard->length, format, list);
     va_end(list);
+    if (heard->run && heard->length > MOST_TEXT / 2 && put_text(heard))
+        heard->length = 0;
     if (heard->length >= MOST_TEXT) {
         fputs("calls: no room for a record's answers\n", stderr);
         exit(1);
@@ -270,6 +302,51 @@ static void lone_set(struct draw *d, struct scene *scene, int16_t *list)
     list[(scene->phase + 2) % SYSTEMS] = unloaded_sample(k + 1);
 }
 
+/* The size of a load, by hundredths of its j: none, below 11, about 11, between,
+ * about 200, above. */
+static int64_t draw_size(struct draw *d)
+{
+    static const int32_t size[6][2] = {{0, 0},         {200, 1090},
+                                       {1080, 1130},   {1200, 19900},
+                                       {19980, 20120}, {20100, 60000}};
+    int64_t kind = draw_from(d, 0, 5);
+
+    return draw_from(d, size[kind][0], size[kind][1]);
+}
+
+/* A load at each end, so large that its A comes near to the drawn size. */
+static void draw_loads(struct draw *d, struct scene *scene)
+{
+    const struct setting *s = &scene->setting;
+    int64_t x = s->curve == 0 ? 300 : s->overcurrent, a, wanted = 0;
+    int32_t *c = scene->fault.cosine[0], *q = scene->fault.sine[0];
+    int32_t values[WINDOW_NUMBERS];
+    int16_t list[SET_NUMBERS];
+
+    draw_wave(d, s, 4000, 0, &scene->fault);
+    for (size_t k = 0; k < WINDOW_SETS; k++) {
+        wave_set(&scene->fault, s, k, list);
+        match_set(s, list, values + SET_NUMBERS * k);
+    }
+    for (size_t i = 0; i < 3u * s->ends; i++) {
+        a = end_amplitude(values, i / 3);
+        if (i % 3 == 0)
+            wanted = draw_size(d) * x / 1000;
+        c[i] = a == 0 ? 0 : clip_sample(c[i] * wanted / a);
+        q[i] = a == 0 ? 0 : clip_sample(q[i] * wanted / a);
+    }
+}
+
+/* Loads that last for some sets. */
+static void load_set(struct draw *d, struct scene *scene, int16_t *list)
+{
+    if (scene->left-- == 0) {
+        draw_loads(d, scene);
+        scene->left = draw_from(d, 6, 30);
+    }
+    wave_set(&scene->fault, &scene->setting, scene->time++, list);
+}
+
 /* The next set of the scene; off, a fault leaves through current or none. */
 static void scene_set(struct draw *d, struct scene *scene, int16_t *list)
 {
@@ -278,6 +355,10 @@ static void scene_set(struct draw *d, struct scene *scene, int16_t *list)
     memset(list, 0, SET_NUMBERS * sizeof list[0]);
     if (scene->kind == LONE) {
         lone_set(d, scene, list);
+        return;
+    }
+    if (scene->kind == LOADS) {
+        load_set(d, scene, list);
         return;
     }
     if (scene->kind == NOISE) {
@@ -350,23 +431,49 @@ static void add_refused_samples(struct draw *d, struct scene *scene,
     r->calls = calls;
 }
 
-/* So many numbers into a list block. */
-static void lay_list(const int16_t *list, size_t n, uint8_t *block)
+/* So many numbers from byte 4 of a block on. */
+static void lay_numbers(const int16_t *list, size_t n, uint8_t *block)
 {
-    block[0] = LIST_KIND;
-    block[1] = (uint8_t)n;
     for (size_t i = 0; i < n; i++) {
         block[4 + 2 * i] = (uint8_t)list[i];
         block[5 + 2 * i] = (uint8_t)((uint16_t)list[i] >> 8);
     }
 }
 
+/* These numbers out of the block. */
+static void take_numbers(const uint8_t *block, size_t n, int16_t *list)
+{
+    for (size_t i = 0; i < n; i++)
+        list[i] = (int16_t)(uint16_t)(block[4 + 2 * i] | block[5 + 2 * i] << 8);
+}
+
+/* So many numbers into a list block. */
+static void lay_list(const int16_t *list, size_t n, uint8_t *block)
+{
+    block[0] = LIST_KIND;
+    block[1] = (uint8_t)n;
+    lay_numbers(list, n, block);
+}
+
 /* The numbers out of a list block, and how many they are. */
 static size_t take_list(const uint8_t *block, int16_t *list)
 {
-    for (size_t i = 0; i < block[1]; i++)
-        list[i] = (int16_t)(uint16_t)(block[4 + 2 * i] | block[5 + 2 * i] << 8);
+    take_numbers(block, block[1], list);
     return block[1];
+}
+
+/* How many calls a cycle block makes. */
+static const struct field CYCLE_CALLS = {292, 4, 0, UINT32_MAX};
+
+/* A cycle block of these twelve sets. */
+static void add_cycle(struct record *r, const int16_t *list, size_t calls)
+{
+    uint8_t *block = next_block(r);
+
+    block[0] = CYCLE_KIND;
+    lay_numbers(list, WINDOW_NUMBERS, block);
+    put_field(block, &CYCLE_CALLS, (uint32_t)calls);
+    r->calls += calls;
 }
 
 /* A list block; of twelve numbers it holds a set of the scene. */
@@ -571,7 +678,7 @@ static void build_common(struct draw *d, size_t i, struct record *r)
 /* Changes a sound setting block in a way that may lead to a refusal. */
 static void damage_setting(struct draw *d, int wanted, uint8_t *block)
 {
-    const struct field *f = &FIELD[draw_from(d, 1, FIELDS - 1)];
+    const struct field *f = &FIELD[draw_from(d, 1, PLAIN_FIELDS - 1)];
     struct setting s;
 
     if (wanted == MARK_WRONG) {
@@ -630,12 +737,14 @@ static void list_places(void)
     }
 }
 
-/* A field with its range in a setting of so many ends. */
-static struct field field_of(const struct field *f, size_t ends)
+/* A field with its range in a block: unused ends hold zeros, and X at curve 0. */
+static struct field field_of(const struct field *f, const uint8_t *block)
 {
     struct field own = *f;
 
-    if (f->at >= 12 + 12 * ends && f->at < 60)
+    if (f->at >= 12 + 12 * (size_t)block[4] && f->at < 60)
+        own.low = own.high = 0;
+    if (f->at == 74 && block[76] == 0)
         own.low = own.high = 0;
     return own;
 }
@@ -643,7 +752,7 @@ static struct field field_of(const struct field *f, size_t ends)
 /* Whether a field of a block is outside its range. */
 static int field_wrong(const uint8_t *block, const struct field *f)
 {
-    struct field own = field_of(f, block[4]);
+    struct field own = field_of(f, block);
     uint32_t value = get_field(block, f);
 
     return value < own.low || value > own.high;
@@ -715,7 +824,7 @@ static void count_common(const struct relay *before, const struct answer *a)
 }
 
 /* What makes a record inadmissible, by document 01's row for refusal 12 and
- * document 02, card 2. */
+ * document 02, cards 2 and 6. */
 static enum fault record_fault(const struct relay *relay)
 {
     size_t offset;
@@ -731,6 +840,9 @@ static enum fault record_fault(const struct relay *relay)
     for (size_t y = 0; y < SYSTEMS; y++)
         if (relay->counters[y] > relay->setting.confirm)
             return COUNTER;
+    for (size_t z = 0; z < MAX_ENDS; z++)
+        if (relay->sums[z] > 1000000000)
+            return SUM;
     return relay->flags > 7 || relay->mask > 7 ? PAGE : NONE;
 }
 
@@ -766,10 +878,60 @@ static void count_flags(const struct relay *before, const struct relay *relay,
 /* Counts an accepted reset, 0 by its call and 1 by the page. */
 static void count_reset(const struct relay *before, int by_page)
 {
+    unsigned sum = 0, trip = 0, unused = 0;
+
     if (heard == NULL)
         return;
+    for (size_t z = 0; z < MAX_ENDS; z++) {
+        sum |= before->sums[z] != 0;
+        trip |= before->trips[z];
+        unused |= z >= before->setting.ends && (before->sums[z] || before->trips[z]);
+    }
     paged.resets[by_page]++;
     paged.resets[2 + by_page] += page_mask(before, 0) != 0;
+    over.resets[by_page][0] += sum;
+    over.resets[by_page][1] += trip;
+    over.resets[by_page][2] += unused;
+}
+
+/* Counts an element that a measured set moves. */
+static void count_element(const struct relay *before, const struct relay *relay,
+                          size_t z)
+{
+    const struct setting *s = &relay->setting;
+    uint32_t was = before->sums[z], now = relay->sums[z];
+    int64_t j = 10 * (int64_t)end_amplitude(relay->values, z) / s->overcurrent;
+    size_t kind = j < 11 ? 0 : j == 11 ? 1 : j < 200 ? 2 : j == 200 ? 3 : 4;
+
+    over.tenths[s->curve - 1][kind]++;
+    over.trips[z] += relay->trips[z] && !before->trips[z];
+    over.cleared[before->trips[z]] += was != 0 && now == 0;
+    over.grown[before->trips[z]] += now > was;
+    over.limit[was == SUM_LIMIT] += now == SUM_LIMIT;
+}
+
+/* Counts what a sample call does to sums and trips. */
+static void count_over(const struct relay *before, const struct relay *relay,
+                       enum refusal refusal, uint32_t filling)
+{
+    const struct setting *s = &relay->setting;
+    size_t kind;
+
+    if (heard == NULL)
+        return;
+    if (refusal == RECORD_WRONG) {
+        over.declined[0] += record_fault(relay) == SUM;
+        return;
+    }
+    kind = refusal != ACCEPTED ? 0 : filling != 0 ? 1 : s->curve == 0 ? 2 : 3;
+    for (size_t z = 0; z < MAX_ENDS; z++) {
+        uint32_t sum = before->sums[z];
+
+        if (kind < 3 || z >= s->ends)
+            over.stays[kind] += sum != 0 && relay->sums[z] == sum;
+        else
+            count_element(before, relay, z);
+    }
 }
 
 /* What a sample call asks: whether 14, or 10 or 11, would decline it too. */
@@ -784,8 +946,16 @@ static enum asked asked(const struct relay *relay, const int16_t *list, size_t n
     return SOUND_SET;
 }
 
+/* The sums of all ends, and the line's end. */
+static void say_sums(const struct relay *relay)
+{
+    for (size_t z = 0; z < MAX_ENDS; z++)
+        say(" %u", relay->sums[z]);
+    say("\n");
+}
+
 /* The line of an accepted set. */
-static void say_answer(const struct answer *a)
+static void say_answer(const struct answer *a, const struct relay *relay)
 {
     if (a->filling != 0) {
         say("F %u\n", a->filling);
@@ -798,19 +968,22 @@ static void say_answer(const struct answer *a)
         say(" %d %d %d %d %d %d %d", m->differential, m->restraint, m->second,
             m->fifth, m->start, m->blocked, a->latched[y]);
     }
-    say("\n");
+    for (size_t z = 0; z < MAX_ENDS; z++)
+        say(" %u", a->tripped[z]);
+    say_sums(relay);
 }
 
 /* One sample call and its line; whether it is right for a healthy bank, which
  * raises no flag of a start or a trip. */
 static int sample_call(struct relay *relay, const int16_t *list, size_t n)
 {
-    struct answer a;
+    struct answer a = {0};
     struct relay before = *relay;
     enum refusal refusal = relay_sample(relay, list, n, &a);
     int quiet = (relay->flags & (NEW_START | NEW_TRIP)) == 0;
 
     count_answer(refusal, asked(relay, list, n));
+    count_over(&before, relay, refusal, a.filling);
     count_flags(&before, relay, refusal);
     if (refusal != ACCEPTED) {
         say("refused %d\n", refusal);
@@ -820,7 +993,7 @@ static int sample_call(struct relay *relay, const int16_t *list, size_t n)
         count_measured(&a);
         count_common(&before, &a);
     }
-    say_answer(&a);
+    say_answer(&a, relay);
     return quiet && healthy_answer(&a, relay->setting.ends);
 }
 
@@ -850,6 +1023,52 @@ static int list_call(struct relay *relay, const uint8_t *block)
     return sample_call(relay, list, n);
 }
 
+/* The short line of a measured set: the trips as one number, and the sums. */
+static void say_short(const struct answer *a, const struct relay *relay)
+{
+    const uint8_t *t = a->tripped;
+    int trips = t[0] + 2 * t[1] + 4 * t[2] + 8 * t[3];
+
+    say("H %d", trips);
+    say_sums(relay);
+    if (heard == NULL)
+        return;
+    heard->cycled++;
+    if (trips != 0 && heard->tripped_at == 0)
+        heard->tripped_at = heard->cycled;
+}
+
+/* One call of a cycle block and its line. */
+static void cycle_call(struct relay *relay, const int16_t *list)
+{
+    struct answer a = {0};
+    struct relay before = *relay;
+    enum refusal refusal = relay_sample(relay, list, SET_NUMBERS, &a);
+
+    count_answer(refusal, asked(relay, list, SET_NUMBERS));
+    count_over(&before, relay, refusal, a.filling);
+    if (heard != NULL)
+        over.lines[refusal != ACCEPTED ? 1 : a.filling != 0 ? 0 : 2]++;
+    if (refusal != ACCEPTED)
+        say("refused %d\n", refusal);
+    else if (a.filling != 0)
+        say("F %u\n", a.filling);
+    else
+        say_short(&a, relay);
+}
+
+/* The calls of a cycle block. */
+static int cycle_calls(struct relay *relay, const uint8_t *block)
+{
+    uint32_t calls = get_field(block, &CYCLE_CALLS);
+    int16_t list[WINDOW_NUMBERS];
+
+    take_numbers(block, WINDOW_NUMBERS, list);
+    for (uint32_t k = 0; k < calls; k++)
+        cycle_call(relay, list + SET_NUMBERS * (k % WINDOW_SETS));
+    return 1;
+}
+
 /* The reset call and its line. */
 static int reset_call(struct relay *relay)
 {
@@ -858,6 +1077,7 @@ static int reset_call(struct relay *relay)
 
     count_answer(refusal, RESET);
     if (refusal != ACCEPTED) {
+        over.declined[1] += heard != NULL && record_fault(relay) == SUM;
         say("refused %d\n", refusal);
         return 1;
     }
@@ -951,6 +1171,7 @@ static void register_call(struct relay *relay, const struct page_call *call)
         return;
     paged.calls[call->write][faults]++;
     paged.wrong += refusal != first_fault(faults);
+    over.declined[2] += refusal == RECORD_WRONG && record_fault(relay) == SUM;
     if (refusal == ACCEPTED)
         count_accepted(call, byte, &before, relay);
 }
@@ -1004,7 +1225,7 @@ static int view_page(const struct relay *relay)
 }
 
 /* The whole record in a line: setting fields, fill, counter and latch of each
- * system, flags and interrupt mask, matched numbers. */
+ * system, flags and interrupt mask, sum and trip of each end, matched numbers. */
 static int print_record(const struct relay *relay)
 {
     say("record");
@@ -1017,6 +1238,8 @@ static int print_record(const struct relay *relay)
     for (size_t y = 0; y < SYSTEMS; y++)
         say(" %u %u", relay->counters[y], relay->latches[y]);
     say(" %u %u", relay->flags, relay->mask);
+    for (size_t z = 0; z < MAX_ENDS; z++)
+        say(" %u %u", relay->sums[z], relay->trips[z]);
     for (size_t i = 0; i < WINDOW_NUMBERS; i++)
         say(" %d", relay->values[i]);
     say("\n");
@@ -1057,12 +1280,15 @@ static enum refusal factor_fault(const uint8_t *block)
 static void count_wrong(enum judged judged, const uint8_t *block, size_t n, size_t k)
 {
     size_t ends = block[4], byte = lone_byte(block, &place[judged][k]);
+    size_t at = place[judged][k].at;
     enum refusal factors = factor_fault(block);
 
     faulty[judged].at_once[n <= MOST_FAULTS ? n : 0]++;
     faulty[judged].first[ends - 2][k]++;
     if (byte >= 12 + 12 * ends && byte < 60)
         faulty[judged].lone[ends - 2][byte - 36]++;
+    if (at == 74 || at == 76)
+        faulty[judged].over[at == 76 ? 2 : block[76] != 0][ends - 2]++;
     if (factors == FACTOR_TOO_HIGH || factors == FACTOR_TOO_LOW)
         faulty[judged].factors[factors - FACTOR_TOO_HIGH]++;
 }
@@ -1164,6 +1390,7 @@ static int call_block(struct relay *relay, const uint8_t *block)
     switch (block[0]) {
     case SAMPLE_KIND: return sample_calls(relay, block);
     case LIST_KIND: return list_call(relay, block);
+    case CYCLE_KIND: return cycle_calls(relay, block);
     case CHANGE_KIND: change_part(relay, take_change(block)); return 1;
     case PRINT_KIND: return print_record(relay);
     case PAGE_KIND: return page_calls(relay, block);
@@ -1297,6 +1524,141 @@ static void build_limits(struct draw *d, struct record *r)
         add_unfilled(d, &scene, r, &relay, fill);
 }
 
+/* ---- Overcurrent ---- */
+
+/* The curve off for some sets, by changes of X and curve, and on again. */
+static void add_off(struct draw *d, struct scene *scene, struct record *r,
+                    struct relay *relay)
+{
+    static const struct part part[2] = {{SETTING_PART, 74}, {SETTING_PART, 76}};
+    struct setting before = relay->setting;
+
+    for (size_t i = 0; i < 2; i++)
+        add_change(r, relay, (struct change){part[i], 0});
+    add_sets(d, scene, r, (size_t)draw_from(d, 1, 4), 0);
+    next_block(r)[0] = PRINT_KIND;
+    add_change(r, relay, (struct change){part[0], before.overcurrent});
+    add_change(r, relay, (struct change){part[1], before.curve});
+}
+
+/* A cycle block of the scene; in one of three a set is declined. */
+static void add_scene_cycle(struct draw *d, struct scene *scene, struct record *r)
+{
+    int16_t list[WINDOW_NUMBERS];
+
+    for (size_t k = 0; k < WINDOW_SETS; k++)
+        scene_set(d, scene, list + SET_NUMBERS * k);
+    if (draw_chance(d, 33))
+        spoil_set(d, &scene->setting, list + SET_NUMBERS * draw_from(d, 0, 11));
+    add_cycle(r, list, (size_t)draw_from(d, 0, 40));
+}
+
+/* Any calls on a relay with overcurrent: sets, resets by call and by page, and sets
+ * with the curve off. */
+static void add_over_calls(struct draw *d, struct scene *scene, struct record *r,
+                           struct relay *relay)
+{
+    static const struct page_call reset = {1, 1, 7};
+    int64_t kind = draw_from(d, 0, 99);
+
+    if (kind < 45)
+        add_sets(d, scene, r, BLOCK_SETS, kind < 25);
+    else if (kind < 55)
+        add_reset(r);
+    else if (kind < 65)
+        add_page_calls(r, &reset, 1);
+    else if (kind < 80)
+        add_scene_cycle(d, scene, r);
+    else
+        add_off(d, scene, r, relay);
+    follow(r, relay);
+}
+
+/* Record number i of overcurrent: 2, 3 and 4 ends and both curves in turn, one of
+ * ten with the curve off; ten changes and calls between them. */
+static void build_over(struct draw *d, size_t i, struct record *r)
+{
+    struct scene scene = {.kind = LOADS};
+    uint8_t curve = (uint8_t)(i % 10 == 9 ? 0 : 1 + i / 3 % CURVES);
+    struct relay relay;
+    size_t offset;
+
+    draw_setting(d, (uint8_t)(2 + i % 3), &scene.setting);
+    if (i % 2 == 1)
+        draw_eighths(d, &scene.setting);
+    draw_overcurrent(d, curve, &scene.setting);
+    lay_setting(&scene.setting, next_block(r));
+    relay_start(&scene.setting, &relay, &offset);
+    r->followed = 1;
+    add_sets(d, &scene, r, (size_t)draw_from(d, 6, BLOCK_SETS), 1);
+    follow(r, &relay);
+    for (size_t k = ROUND * i; k < ROUND * (i + 1); k++) {
+        size_t n = (37 * k + 11 * (i / 6)) % OVER_CHANGES;
+
+        add_changed_calls(d, &scene, r, &relay, over_change(d, n));
+        add_over_calls(d, &scene, r, &relay);
+    }
+}
+
+/* Run number i: in turn ends, X, and the end that carries a steady j. */
+static unsigned run_setting(size_t i, struct setting *s)
+{
+    static const uint16_t steady[STEADY] = {
+        11,  12,  13,  14,  15,  16,  17,  18,  19,  20,  22,  25,  28,
+        30,  33,  37,  40,  45,  50,  57,  64,  70,  75,  80,  90,  99,
+        100, 110, 120, 130, 150, 170, 180, 190, 199, 200, 201, 400};
+    static const uint16_t x[4] = {200, 263, 777, 1500};
+
+    *s = plain_setting;
+    s->ends = (uint8_t)(2 + i % 3);
+    s->curve = (uint8_t)(1 + i / STEADY);
+    s->overcurrent = steady[i % STEADY] > 200 ? 200 : x[i % 4];
+    for (size_t z = 2; z < s->ends; z++)
+        s->end[z] = s->end[0];
+    return steady[i % STEADY];
+}
+
+/* A cycle of a run: a current halfway between j and the next on an end's phase, and
+ * on those of other ends below 11. */
+static void run_cycle(const struct setting *s, size_t end, size_t phase, unsigned j,
+                      int16_t list[WINDOW_NUMBERS])
+{
+    struct wave wave = {0};
+
+    for (size_t z = 0; z < s->ends; z++)
+        wave.cosine[0][3 * z + phase] = (int32_t)(5 * z) * s->overcurrent / 20;
+    wave.cosine[0][3 * end + phase] = (int32_t)(2 * j + 1) * s->overcurrent / 20;
+    for (size_t k = 0; k < WINDOW_SETS; k++)
+        wave_set(&wave, s, k, list + SET_NUMBERS * k);
+}
+
+/* Run number i, or a long one: at j 11 of either curve from a fresh relay. Others at
+ * low j start from a sum that leaves some 250 sets. It trips at the least number of
+ * sets whose growth reaches the limit; then come twelve, a reset, and some more. */
+static void build_run(struct draw *d, size_t i, struct record *r)
+{
+    int16_t list[WINDOW_NUMBERS];
+    struct setting s;
+    size_t n = i < CURVES * STEADY ? i : STEADY * (i % CURVES);
+    unsigned j = run_setting(n, &s);
+    struct change from = {{SUM_PART, (uint8_t)(n / 3 % s.ends)}, 0};
+    uint32_t entry = curve_entry(s.curve, j < 200 ? j : 200);
+    uint32_t growth = SUM_LIMIT / entry;
+
+    lay_setting(&s, next_block(r));
+    if (i < CURVES * STEADY && entry > 450) {
+        from.value = SUM_LIMIT - (uint32_t)draw_from(d, 240 * growth, 260 * growth);
+        lay_change(from, next_block(r));
+    }
+    r->trips_at = (SUM_LIMIT - from.value + growth - 1) / growth;
+    run_cycle(&s, from.part.which, n / 2 % SYSTEMS, j, list);
+    add_cycle(r, list, WINDOW_SETS - 1 + r->trips_at + 12);
+    next_block(r)[0] = PRINT_KIND;
+    add_reset(r);
+    add_cycle(r, list, 20);
+    next_block(r)[0] = PRINT_KIND;
+}
+
 /* ---- Faulty settings ---- */
 
 /* A value with one byte other than that of a sound one, and outside the range. */
@@ -1318,7 +1680,7 @@ static uint32_t one_byte_off(struct draw *d, const struct field *f, uint32_t sou
 static void spoil_field(struct draw *d, const struct field *f, unsigned how,
                         uint8_t *block)
 {
-    struct field own = field_of(f, block[4]);
+    struct field own = field_of(f, block);
     uint32_t value = get_field(block, f);
 
     if (own.high == 0) {
@@ -1345,7 +1707,7 @@ static int among(const size_t *list, size_t n, size_t i)
 }
 
 /* So many different fields: one of two lies near to the one before it, and most
- * of the others in the first 74 bytes. */
+ * of the others in the first 77 bytes. */
 static void draw_places(struct draw *d, enum judged judged, size_t n, size_t *list)
 {
     int64_t all = (int64_t)places[judged];
@@ -1424,7 +1786,7 @@ static void spoil_beside(struct draw *d, size_t n, uint8_t *block)
 }
 
 /* Faulty setting block number n, from sound ones of 2, 3 and 4 ends: each field of
- * the first 74 bytes with its neighbour in every way, and alone; each later field
+ * the first 77 bytes with its neighbour in every way, and alone; each later field
  * with its neighbour; any fields; and these beside other faults. */
 static void lay_faulty(struct draw *d, size_t n, const struct setting sound[3],
                        uint8_t *block)
@@ -1463,14 +1825,16 @@ static void add_sound(struct draw *d, size_t i, struct record *r)
     add_reset(r);
 }
 
-/* Record number i of faulty setting blocks: now and then calls that are passed
- * over, and after each half a sound block. */
+/* Record number i of faulty setting blocks, all curves in turn: now and then calls
+ * that are passed over, and after each half a sound block. */
 static void build_faulty(struct draw *d, size_t i, struct record *r)
 {
     struct setting sound[3];
 
-    for (uint8_t e = 0; e < 3; e++)
+    for (uint8_t e = 0; e < 3; e++) {
         draw_setting(d, 2 + e, &sound[e]);
+        draw_overcurrent(d, (uint8_t)(i % 3), &sound[e]);
+    }
     for (size_t k = 0; k < FAULTY_BLOCKS; k++) {
         lay_faulty(d, FAULTY_BLOCKS * i + k, sound, next_block(r));
         if (k % 40 == 20)
@@ -1529,11 +1893,13 @@ static void add_changed_values(struct record *r, struct relay *relay,
         r->kept = 0;
 }
 
-/* Each field of the values wrong with its neighbour, the last alone, in one of
- * four ways. */
+/* Each field of the values wrong with its neighbour, the last alone, and X alone, in
+ * one of four ways. */
 static void add_pairs(struct draw *d, unsigned how, struct record *r,
                       struct relay *relay)
 {
+    struct change x;
+
     for (size_t k = 0; k < NUMBERS; k++) {
         struct change change[2] = {wrong_value(d, relay, k, how)};
         size_t n = k + 1 < NUMBERS ? 2 : 1;
@@ -1542,6 +1908,8 @@ static void add_pairs(struct draw *d, unsigned how, struct record *r,
             change[1] = wrong_value(d, relay, k + 1, (unsigned)draw_from(d, 0, 3));
         add_changed_values(r, relay, change, n);
     }
+    x = wrong_value(d, relay, NUMBERS - 2, how);
+    add_changed_values(r, relay, &x, 1);
 }
 
 /* Wrong values, none or two to six; beside them, in turn, nothing, E wrong, E
@@ -1569,8 +1937,8 @@ static void add_unsound(struct draw *d, size_t turn, struct record *r,
     add_changed_values(r, relay, change, n);
 }
 
-/* Record number i of wrong values on a relay of 2, 3 or 4 ends: first those of
- * neighbours. */
+/* Record number i of wrong values on a relay of 2, 3 or 4 ends and each curve: first
+ * those of neighbours. */
 static void build_values(struct draw *d, size_t i, struct record *r)
 {
     struct scene scene = {.kind = NOISE};
@@ -1578,6 +1946,7 @@ static void build_values(struct draw *d, size_t i, struct record *r)
     size_t offset;
 
     draw_movable(d, (uint8_t)(2 + i % 3), &scene.setting);
+    draw_overcurrent(d, (uint8_t)(i / 3 % 3), &scene.setting);
     lay_setting(&scene.setting, next_block(r));
     relay_start(&scene.setting, &relay, &offset);
     r->followed = 1;
@@ -1643,12 +2012,17 @@ static int turned_alike(const struct outcome *turned, const struct outcome *befo
 
 /* Record number i: first those of calls alone, each sixth of them on a refused
  * setting; then those with changes, those of sets watched one by one, those of
- * faulty setting blocks and values, and those of common blocking. */
+ * faulty setting blocks and values, those of common blocking, those of overcurrent,
+ * and its runs. */
 static void build(struct draw *d, size_t i, struct record *r)
 {
     memset(r, 0, sizeof *r);
     r->kept = 1;
-    if (i >= COMMON_FROM)
+    if (i >= RUNS_FROM)
+        build_run(d, i - RUNS_FROM, r);
+    else if (i >= OVER_FROM)
+        build_over(d, i - OVER_FROM, r);
+    else if (i >= COMMON_FROM)
         build_common(d, i - COMMON_FROM, r);
     else if (i >= VALUES_FROM)
         build_values(d, i - VALUES_FROM, r);
@@ -1675,20 +2049,15 @@ static int comes_turned(size_t i)
     return i < RECORDS && i % 6 != 5 && (i / 6 * 5 + i % 6) % TURNED == 0;
 }
 
-/* The lines that were written down. */
-static int put_text(const struct outcome *out)
-{
-    return fwrite(out->text, 1, out->length, stdout) == out->length;
-}
-
-/* The lines of one record; 0 when a healthy bank starts or differs, or a
- * refused call changed the relay record. */
+/* The lines of one record; 0 when a healthy bank starts or differs, a refused call
+ * changed the relay record, or a run trips at another set. */
 static int put_expected(const struct record *r, struct outcome *out)
 {
     int started = 0, right = 1;
 
     memset(out, 0, sizeof *out);
     heard = out;
+    out->run = r->trips_at != 0;
     told.healthy += (unsigned)r->healthy;
     for (size_t i = 0; i < r->blocks; i++) {
         const uint8_t *block = r->block[i];
@@ -1703,6 +2072,8 @@ static int put_expected(const struct record *r, struct outcome *out)
     heard = NULL;
     told.records++;
     paged.records += out->paged != 0;
+    if (out->run && out->tripped_at != r->trips_at)
+        return 0;
     return put_text(out) && r->kept && (right || !r->healthy);
 }
 
@@ -1737,7 +2108,7 @@ static int put(struct draw *d, size_t i, int input)
     build(d, i, &r);
     if (!(input ? put_input(&r) : put_expected(&r, &out)))
         return 0;
-    for (size_t k = 0; !input && i >= COMMON_FROM && k < 4; k++)
+    for (size_t k = 0; !input && i >= COMMON_FROM && i < OVER_FROM && k < 4; k++)
         told.common[k] += out.common[k];
     if (!comes_turned(i))
         return 1;
@@ -1862,6 +2233,8 @@ static int fields_told(const char *what, enum judged judged)
     return (fewest(first, 3) != 0 && fewest(pair, 3) != 0) &
            (lone != 0 && wrong == 0) &
            tell("fields wrong at once, 2 to 6", faulty[judged].at_once + 2, 5) &
+           tell("first wrong X at curve 0, X at another, curve (2, 3, 4 ends each)",
+                faulty[judged].over[0], 9) &
            tell("5 where 6, 7 would come otherwise", faulty[judged].factors, 2);
 }
 
@@ -1878,6 +2251,28 @@ static int faults_told(void)
            tell("made wrong (below; above; ones; one byte; a zero)", made.how, 5) &
            tell("that one byte, 0 to 3", made.byte, 4) &
            tell("faults beside (2, 3, 4 of blocks; 4 of values)", made.beside, 4);
+}
+
+/* Tells what the run has of overcurrent; whether all of it is there. */
+static int over_told(void)
+{
+    const unsigned *t = told.changes[TRIP_PART], *s = told.changes[SUM_PART];
+    const unsigned changes[3] = {s[NONE], s[SUM], t[NONE]};
+
+    return tell("elements at j (below 11; 11; to 199; 200; above), very inverse",
+                over.tenths[0], 5) &
+           tell("elements at j, extremely inverse", over.tenths[1], 5) &
+           tell("elements that trip, by end", over.trips, MAX_ENDS) &
+           tell("sums cleared (before a trip; after)", over.cleared, 2) &
+           tell("sums grown (before a trip; after)", over.grown, 2) &
+           tell("sums at the limit (come to it; stopped again)", over.limit, 2) &
+           tell("sums that stay (refused set; filling; curve 0; unused end)",
+                over.stays, 4) &
+           tell("resets with (sum; trip; either at an unused end), by call and page",
+                over.resets[0], 6) &
+           tell("refused 12 by a sum (sample; reset; page)", over.declined, 3) &
+           tell("changes of sums (within; past), of trips", changes, 3) &
+           tell("lines of cycle blocks (filling; refused; measured)", over.lines, 3);
 }
 
 /* Tells what the run has; whether every kind of refusal 12 and of change is
@@ -1903,14 +2298,14 @@ static int all_told(void)
     return tell("refused 12", told.declined, ASKED) &
            tell("changes within the rules", within, 5) &
            tell("changes past them", past, 9) & page_calls_told() &
-           page_events_told() & faults_told() &
+           page_events_told() & faults_told() & over_told() &
            tell("common blocking (01 holds back more; trip there; D at P; all blocked)",
                 told.common, 4);
 }
 
 int main(int argc, char **argv)
 {
-    struct draw d = {0xCA115}, common = {0xC0330};
+    struct draw d = {0xCA115}, common = {0xC0330}, over_draw = {0x0CE60255};
     int input = argc == 2 && strcmp(argv[1], "input") == 0;
 
     if (!input && (argc != 2 || strcmp(argv[1], "expect") != 0)) {
@@ -1919,7 +2314,8 @@ int main(int argc, char **argv)
     }
     list_places();
     for (size_t i = 0; i < ALL_RECORDS; i++)
-        if (!put(i < COMMON_FROM ? &d : &common, i, input)) {
+        if (!put(i < COMMON_FROM ? &d : i < OVER_FROM ? &common : &over_draw, i,
+                 input)) {
             fprintf(stderr, "calls: record %zu is not as it must be\n", i);
             return 1;
         }

@@ -52,7 +52,8 @@ const struct field FIELD[FIELDS] = {
     {45, 1, 0, 1},        {48, 4, 1, 15000},    {52, 4, 1, 50000},
     {56, 1, 0, 11},       {57, 1, 0, 1},        {60, 2, 100, 2500},
     {62, 2, 2500, 30000}, {64, 2, 10, 150},     {66, 2, 10, 150},
-    {68, 2, 1500, 10000}, {70, 2, 10, 50},      {72, 2, 10, 80}};
+    {68, 2, 1500, 10000}, {70, 2, 10, 50},      {72, 2, 10, 80},
+    {74, 2, 200, 4000},   {76, 1, 0, 2}};
 
 /* Puts a value into a field as far as its bytes hold it. */
 void put_field(uint8_t *block, const struct field *field, uint32_t value)
@@ -216,6 +217,15 @@ void draw_eighths(struct draw *d, struct setting *s)
         s->end[z].voltage = 780;
         s->end[z].current = (uint32_t)(125 * draw_from(d, 4, 32));
     }
+}
+
+/* A curve, and X as it goes with it, mostly low; drawn settings have none. */
+void draw_overcurrent(struct draw *d, uint8_t curve, struct setting *s)
+{
+    s->curve = curve;
+    s->overcurrent = 0;
+    if (curve != 0)
+        s->overcurrent = draw_limit(d, 200, draw_chance(d, 70) ? 800 : 4000);
 }
 
 /* ---- Waves ---- */

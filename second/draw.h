@@ -15,12 +15,14 @@ int64_t draw_from(struct draw *d, int64_t low, int64_t high);
 int64_t draw_spread(struct draw *d, int64_t low, int64_t high);
 int draw_chance(struct draw *d, unsigned percent);
 
-/* A setting field in the block: where it lies and its range at a used end. */
+/* A setting field in the block: where it lies and its range at a used end, and with
+ * a curve on. */
 struct field {
     size_t at, width;
     uint32_t low, high;
 };
-#define FIELDS 27
+#define FIELDS 29
+#define PLAIN_FIELDS 27     /* of them without those of overcurrent */
 extern const struct field FIELD[FIELDS];
 void put_field(uint8_t *block, const struct field *field, uint32_t value);
 uint32_t get_field(const uint8_t *block, const struct field *field);
@@ -32,6 +34,7 @@ void aim_factor(struct draw *d, uint32_t power, int64_t factor, struct end *end)
 void draw_setting(struct draw *d, uint8_t ends, struct setting *s);
 void draw_wide_setting(struct draw *d, struct setting *s);
 void draw_eighths(struct draw *d, struct setting *s);
+void draw_overcurrent(struct draw *d, uint8_t curve, struct setting *s);
 
 /* A current in every phase of every end: fundamental, second and fifth. */
 struct wave {

@@ -31,6 +31,8 @@ static void draw_pair_setting(struct draw *d, struct setting *s)
     }
     if (draw_chance(d, 40))
         s->flags = 0;
+    if (draw_chance(d, 40))
+        draw_overcurrent(d, (uint8_t)draw_from(d, 1, CURVES), s);
 }
 
 /* Up to 21 sets: a wave that sets in at some set, a healthy bank, or noise. */
@@ -79,7 +81,7 @@ static void damage(struct draw *d, uint8_t *block, size_t *length)
     if (kind == 0)
         block[at] ^= (uint8_t)(1u << draw_from(d, 0, 7));
     else if (kind == 1)
-        block[draw_chance(d, 50) ? at : at % 76] = (uint8_t)draw_word(d);
+        block[draw_chance(d, 50) ? at : at % 79] = (uint8_t)draw_word(d);
     else if (kind == 2)
         put_field(block, f, draw_chance(d, 50) ? f->low - 1 : f->high + 1);
     else if (kind == 3)

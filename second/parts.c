@@ -41,11 +41,13 @@ uint32_t part_value(const struct relay *relay, struct part part)
     case FILL_PART: return relay->fill;
     case NUMBER_PART: return (uint32_t)relay->values[part.which];
     case PAGE_PART: return part.which == 0 ? relay->flags : relay->mask;
+    case SUM_PART: return relay->sums[part.which];
+    case TRIP_PART: return relay->trips[part.which];
     default: return relay->counters[part.which];
     }
 }
 
-/* Puts a part to another value; all but setting fields and matched numbers are
+/* Puts a part to another value; all but setting fields, matched numbers and sums are
  * single bytes. */
 void change_part(struct relay *relay, struct change change)
 {
@@ -57,6 +59,8 @@ void change_part(struct relay *relay, struct change change)
     case FILL_PART: relay->fill = byte; break;
     case NUMBER_PART: relay->values[which] = (int32_t)change.value; break;
     case PAGE_PART: *(which == 0 ? &relay->flags : &relay->mask) = byte; break;
+    case SUM_PART: relay->sums[which] = change.value; break;
+    case TRIP_PART: relay->trips[which] = byte; break;
     default: relay->counters[which] = byte; break;
     }
 }
@@ -74,7 +78,9 @@ int record_same(const struct relay *a, const struct relay *b)
            a->flags == b->flags && a->mask == b->mask &&
            memcmp(a->values, b->values, sizeof a->values) == 0 &&
            memcmp(a->counters, b->counters, sizeof a->counters) == 0 &&
-           memcmp(a->latches, b->latches, sizeof a->latches) == 0;
+           memcmp(a->latches, b->latches, sizeof a->latches) == 0 &&
+           memcmp(a->sums, b->sums, sizeof a->sums) == 0 &&
+           memcmp(a->trips, b->trips, sizeof a->trips) == 0;
 }
 
 /* ---- Blocks ---- */
@@ -191,9 +197,9 @@ static struct change page_edge(size_t i)
 /* Change number i, in order of the kinds. */
 struct change edge_change(struct draw *d, const struct relay *relay, size_t i)
 {
-    if (i < 4 * FIELDS)
+    if (i < 4 * PLAIN_FIELDS)
         return field_edge(i);
-    i -= 4 * FIELDS;
+    i -= 4 * PLAIN_FIELDS;
     if (i < 4)
         return factor_edge(relay, i);
     i -= 4;
@@ -212,4 +218,34 @@ struct change edge_change(struct draw *d, const struct relay *relay, size_t i)
     if (i < 10)
         return page_edge(i);
     return number_edge(d, i);
+}
+
+/* A sum of none, some, close to the limit, at it, and past it. */
+static struct change sum_edge(struct draw *d, size_t i)
+{
+    uint32_t some = (uint32_t)draw_from(d, 1, SUM_LIMIT);
+    uint32_t left = (uint32_t)draw_spread(d, 2, 20000000);
+    const uint32_t sum[9] = {0, some, SUM_LIMIT - left, SUM_LIMIT - left / 2,
+                             SUM_LIMIT - 1, SUM_LIMIT, SUM_LIMIT + 1, 0x80000000,
+                             UINT32_MAX};
+
+    return (struct change){{SUM_PART, (uint8_t)(i % 4)}, sum[i / 4]};
+}
+
+/* Change number i of overcurrent: sums and trips of each end, X and curve, and the
+ * fill below a full window. */
+struct change over_change(struct draw *d, size_t i)
+{
+    if (i < 36)
+        return sum_edge(d, i);
+    i -= 36;
+    if (i < 8)
+        return (struct change){{TRIP_PART, (uint8_t)(i % 4)}, (uint32_t)(i / 4)};
+    i -= 8;
+    if (i < 8)
+        return field_edge(4 * PLAIN_FIELDS + i);
+    i -= 8;
+    if (i < 4)
+        return (struct change){{SETTING_PART, 76}, (uint32_t)i % 2 + 1};
+    return (struct change){{FILL_PART, 0}, (uint32_t)draw_from(d, 0, 11)};
 }

@@ -5,12 +5,16 @@
 
 #include "draw.h"
 
-enum part_kind { SETTING_PART, FILL_PART, NUMBER_PART, COUNTER_PART, PAGE_PART };
-#define PART_KINDS 5
+enum part_kind {
+    SETTING_PART, FILL_PART, NUMBER_PART, COUNTER_PART, PAGE_PART, SUM_PART,
+    TRIP_PART
+};
+#define PART_KINDS 7
 
 /* One part: of the setting the field at this offset of its block, of the
  * matched numbers that in this place, of the counters that of this system, of
- * the page's bytes the event flags (0) or the interrupt mask (1). */
+ * the page's bytes the event flags (0) or the interrupt mask (1), of the sums and
+ * the trips that of this end. */
 struct part {
     enum part_kind kind;
     uint8_t which;
@@ -31,9 +35,11 @@ int record_same(const struct relay *a, const struct relay *b);
 void lay_change(struct change change, uint8_t block[BLOCK_BYTES]);
 struct change take_change(const uint8_t block[BLOCK_BYTES]);
 
-/* Changes over all parts, at the edge of each rule and past it: number i, from
- * 0 on, for a record as it is. */
+/* Changes over all parts but those of overcurrent, at the edge of each rule and past
+ * it: number i, from 0 on, for a record as it is. And those of overcurrent. */
 #define CHANGES 330
+#define OVER_CHANGES 60
 struct change edge_change(struct draw *d, const struct relay *relay, size_t i);
+struct change over_change(struct draw *d, size_t i);
 
 #endif

@@ -1,6 +1,6 @@
 /* A three-phase transformer differential relay: setting and sample blocks,
- * matching, amplitudes, characteristic, harmonic blocking, trip logic and the
- * register page. */
+ * matching, amplitudes, characteristic, harmonic blocking, trip logic, the
+ * register page and backup overcurrent. */
 #ifndef SECOND_RELAY_H
 #define SECOND_RELAY_H
 
@@ -25,6 +25,11 @@
 #define BLOCK_ON_SECOND 1   /* bits of the flags */
 #define BLOCK_ON_FIFTH 2
 #define COMMON_BLOCKING 4
+
+#define CURVES 2            /* of overcurrent: very and extremely inverse */
+#define TENTHS_LOWEST 11    /* of X, from which a sum grows */
+#define TENTHS_HIGHEST 200
+#define SUM_LIMIT 1000000000
 
 #define PAGE_BYTES 64       /* the register page */
 #define PAGE_FLAGS 3        /* the bytes of it that can be written */
@@ -79,6 +84,8 @@ struct setting {
     uint16_t third_section; /* Q */
     uint16_t second;        /* second-harmonic percent */
     uint16_t fifth;         /* fifth-harmonic percent */
+    uint16_t overcurrent;   /* X, pick-up of the overcurrent elements */
+    uint8_t curve;          /* of these; 0 is off */
 };
 
 /* One measuring system's currents and decisions at a full window. */
@@ -92,7 +99,8 @@ struct measured {
 };
 
 /* The relay record: place 12*k + 3*z + y for set k, end z, system y. The event
- * flags are byte 3 of the page, the interrupt mask is byte 4. */
+ * flags are byte 3 of the page, the interrupt mask is byte 4. Sums and trips are
+ * those of the ends' overcurrent elements. */
 struct relay {
     struct setting setting;
     int32_t values[WINDOW_NUMBERS];
@@ -101,13 +109,17 @@ struct relay {
     uint8_t latches[SYSTEMS];
     uint8_t flags;
     uint8_t mask;
+    uint32_t sums[MAX_ENDS];
+    uint8_t trips[MAX_ENDS];
 };
 
-/* The answer to an accepted set: filling is 1 to 11, or 0 when measured. */
+/* The answer to an accepted set: filling is 1 to 11, or 0 when measured. Tripped are
+ * the ends' overcurrent elements. */
 struct answer {
     uint32_t filling;
     struct measured system[SYSTEMS];
     uint8_t latched[SYSTEMS];
+    uint8_t tripped[MAX_ENDS];
 };
 
 /* Blocks. With FIELD_WRONG the offset becomes the lowest of a field outside its
@@ -135,6 +147,11 @@ int starts(const struct setting *setting, int64_t differential,
 void measure_window(const struct setting *setting,
                     const int32_t values[WINDOW_NUMBERS],
                     struct measured system[SYSTEMS]);
+
+/* Backup overcurrent: the entry of a curve's table for j, 11 to 200, and A of an
+ * end. */
+uint32_t curve_entry(unsigned curve, unsigned j);
+int32_t end_amplitude(const int32_t values[WINDOW_NUMBERS], size_t end);
 
 /* The relay. A refused call leaves record and answer as before, but that a set
  * refused with 14, 10 or 11 raises its flag. */

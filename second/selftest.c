@@ -289,12 +289,12 @@ static void check_refusals(void)
 static void check_records(void)
 {
     struct setting s = plain_setting;
-    struct relay fresh, relay[6];
+    struct relay fresh, relay[9];
     struct answer answer;
     size_t offset;
 
     meet("start", relay_start(&s, &fresh, &offset), 0);
-    for (size_t i = 0; i < 6; i++)
+    for (size_t i = 0; i < 9; i++)
         relay[i] = fresh;
     relay[1].fill = 13;
     relay[2].values[143] = 800001;
@@ -302,11 +302,15 @@ static void check_records(void)
     relay[4].counters[2] = 2;
     relay[5].setting.end[1].current = 499;
     relay[5].setting.end[0].current = 499;
+    relay[6].sums[0] = 1000000001;
+    relay[7].sums[2] = 1000000001;
+    relay[8].sums[3] = UINT32_MAX;
+    relay[0].sums[1] = relay[0].sums[3] = 1000000000;
     relay[0].values[143] = 800000;
     relay[0].values[141] = -800000;
     relay[0].fill = 12;
     relay[0].counters[2] = 1;
-    for (size_t i = 0; i < 6; i++) {
+    for (size_t i = 0; i < 9; i++) {
         struct relay one = relay[i];
 
         meet("record", relay_sample(&one, NULL, 0, &answer), i ? 12 : 14);
@@ -332,6 +336,7 @@ static void check_setting_block(void)
                  {22, 1, 5, 22},   {23, 1, 5, 23},   {32, 12, 5, 32},
                  {39, 1, 5, 36},   {41, 1, 5, 40},   {57, 1, 5, 57},
                  {61, 250, 5, 60}, {72, 81, 5, 72},  {74, 1, 5, 74},
+                 {75, 1, 5, 74},   {76, 1, 5, 74},   {77, 1, 5, 77},
                  {509, 1, 5, 509}, {3, 0x32, 3, 0}, {32, 11, 0, 0}};
     struct setting s = plain_setting, back;
     uint8_t block[BLOCK_BYTES + 1];
@@ -367,7 +372,7 @@ static const struct faults FAULTS[] = {
     {{{23, 255}, {26, 1}}, 5, 23, 5, 24},
     {{{59, 1}, {61, 255}}, 5, 59, 5, 60},
     {{{509, 1}}, 5, 509, 0, 0},
-    {{{509, 1}, {74, 128}}, 5, 74, 0, 0},
+    {{{509, 1}, {77, 128}}, 5, 77, 0, 0},
     /* A number is one field, whichever of its bytes makes it wrong. */
     {{{11, 1}, {15, 1}}, 5, 8, 5, 8},
     {{{15, 1}, {19, 1}}, 5, 12, 5, 12},
@@ -394,6 +399,23 @@ static const struct faults FAULTS[] = {
     {{{4, 3}}, 5, 36, 5, 36},
     {{{4, 3}, {35, 1}}, 5, 35, 5, 36},
     {{{4, 3}, {36, 1}, {51, 1}}, 5, 40, 5, 40},
+    /* X is 0 at curve 0, 200 to 4,000 at any other byte; the curve is up to 2. */
+    {{{74, 200}}, 5, 74, 5, 74},
+    {{{75, 1}, {77, 1}}, 5, 74, 5, 74},
+    {{{76, 1}}, 5, 74, 5, 74},
+    {{{76, 255}}, 5, 74, 5, 74},
+    {{{74, 199}, {76, 1}}, 5, 74, 5, 74},
+    {{{74, 200}, {76, 1}}, 0, 0, 0, 0},
+    {{{74, 160}, {75, 15}, {76, 2}}, 0, 0, 0, 0},
+    {{{74, 161}, {75, 15}, {76, 2}}, 5, 74, 5, 74},
+    {{{74, 199}, {76, 3}}, 5, 74, 5, 74},
+    {{{74, 200}, {76, 3}}, 5, 76, 5, 76},
+    {{{74, 161}, {75, 15}, {76, 255}}, 5, 74, 5, 74},
+    {{{75, 8}, {76, 255}, {77, 1}}, 5, 76, 5, 76},
+    {{{75, 8}, {76, 2}, {77, 1}}, 5, 77, 0, 0},
+    {{{73, 1}, {76, 3}}, 5, 72, 5, 72},
+    {{{17, 125}, {76, 1}}, 5, 74, 5, 74},
+    {{{17, 125}, {75, 8}, {76, 1}}, 6, 0, 6, 0},
     /* From one end of the block to the other. */
     {{{74, 1}, {5, 8}}, 5, 5, 5, 5},
     {{{509, 1}, {72, 81}, {6, 25}}, 5, 6, 5, 6},
@@ -628,12 +650,13 @@ struct scene {
 
 /* Calls of the lists: in all, and those that end in each of these. */
 static struct {
-    unsigned calls, refused, full, started, blocked, latched;
+    unsigned calls, refused, full, started, blocked, latched, tripped;
 } turned;
 
 /* Counts a sample call. */
 static void count_turned(enum refusal refusal, const struct answer *a)
 {
+    static const uint8_t none[MAX_ENDS] = {0};
     int started = 0, blocked = 0, latched = 0;
 
     for (size_t y = 0; y < SYSTEMS; y++) {
@@ -647,12 +670,14 @@ static void count_turned(enum refusal refusal, const struct answer *a)
     turned.started += (unsigned)started;
     turned.blocked += (unsigned)blocked;
     turned.latched += (unsigned)latched;
+    turned.tripped += memcmp(a->tripped, none, sizeof none) != 0;
 }
 
 /* Whether two answers are the same in every field. */
 static int answer_same(const struct answer *a, const struct answer *b)
 {
-    int same = a->filling == b->filling;
+    int same = a->filling == b->filling &&
+               memcmp(a->tripped, b->tripped, sizeof a->tripped) == 0;
 
     for (size_t y = 0; y < SYSTEMS; y++) {
         const struct measured *m = &a->system[y], *o = &b->system[y];
@@ -675,6 +700,8 @@ static int record_turned(const struct relay *a, const struct relay *b)
         same &= a->values[i] == -b->values[i];
     for (size_t y = 0; y < SYSTEMS; y++)
         same &= a->counters[y] == b->counters[y] && a->latches[y] == b->latches[y];
+    for (size_t z = 0; z < MAX_ENDS; z++)
+        same &= a->sums[z] == b->sums[z] && a->trips[z] == b->trips[z];
     return same;
 }
 
@@ -700,8 +727,18 @@ static void turned_reset(struct relay *relay, struct relay *other)
     meet("turned record", record_turned(relay, other), 1);
 }
 
+/* Starts a relay whose sums are so near to their limit that elements trip. */
+static void start_near(const struct setting *s, struct relay *relay)
+{
+    size_t offset;
+
+    meet("start", relay_start(s, relay, &offset), 0);
+    for (uint32_t z = 0; z < MAX_ENDS; z++)
+        relay->sums[z] = SUM_LIMIT - 1 - 2000000 * z;
+}
+
 /* Scene number i: each number of ends, every other one with factors that make
- * halves, and all kinds in turn; low pick-up, and few sets to confirm. */
+ * halves, and all kinds and curves in turn; low pick-up, and few sets to confirm. */
 static void draw_turned(struct draw *d, unsigned i, struct scene *scene)
 {
     struct setting *s = &scene->setting;
@@ -711,6 +748,8 @@ static void draw_turned(struct draw *d, unsigned i, struct scene *scene)
         draw_eighths(d, s);
     s->confirm = (uint8_t)draw_from(d, 1, 4);
     s->pick_up = (uint16_t)draw_from(d, 100, 600);
+    s->curve = (uint8_t)(i / 24 % 3);
+    s->overcurrent = (uint16_t)(s->curve == 0 ? 0 : 200 + i % 600);
     scene->kind = i / 6 % 4;
     draw_wave(d, s, draw_spread(d, 400, 40000), (unsigned)draw_from(d, 0, 3),
               &scene->wave);
@@ -742,10 +781,9 @@ static void turned_list(struct draw *d, const struct scene *scene)
 {
     int16_t list[2 * SET_NUMBERS] = {0};
     struct relay relay, other;
-    size_t offset;
 
-    meet("start", relay_start(&scene->setting, &relay, &offset), 0);
-    meet("start", relay_start(&scene->setting, &other, &offset), 0);
+    start_near(&scene->setting, &relay);
+    start_near(&scene->setting, &other);
     for (size_t k = 0; k < TURNED_CALLS; k++) {
         int64_t call = draw_from(d, 0, 99);
 
@@ -775,10 +813,11 @@ static void check_turned_lists(void)
     meet("turned sets that start", turned.started > 0, 1);
     meet("turned sets blocked", turned.blocked > 0, 1);
     meet("turned sets latched", turned.latched > 0, 1);
+    meet("turned sets with a tripped element", turned.tripped > 0, 1);
     printf("second: %u turned lists, %u sample calls, %u refused, %u full, "
-           "%u started, %u blocked, %u latched\n", TURNED_LISTS, turned.calls,
-           turned.refused, turned.full, turned.started, turned.blocked,
-           turned.latched);
+           "%u started, %u blocked, %u latched, %u with a tripped element\n",
+           TURNED_LISTS, turned.calls, turned.refused, turned.full, turned.started,
+           turned.blocked, turned.latched, turned.tripped);
 }
 
 /* One sample on phase A of end 0 and zeros in a window, both factors the same. */
@@ -1292,10 +1331,9 @@ static void paged_list(struct draw *d, const struct scene *scene)
     int16_t list[2 * SET_NUMBERS] = {0};
     struct relay relay, other;
     struct shadow p = {0};
-    size_t offset;
 
-    meet("start", relay_start(&scene->setting, &relay, &offset), 0);
-    meet("start", relay_start(&scene->setting, &other, &offset), 0);
+    start_near(&scene->setting, &relay);
+    start_near(&scene->setting, &other);
     for (size_t k = 0; k < PAGED_CALLS; k++) {
         int64_t call = draw_from(d, 0, 99);
 
@@ -1671,6 +1709,290 @@ static void check_common_blocking(void)
     check_drawn_windows();
 }
 
+/* ---- Backup overcurrent ---- */
+
+#define DRAWN_STEPS 30000
+#define APART_LISTS 800
+
+/* Both tables: entries by hand; each the least whole number by products; and by the
+ * times of IEC 60255-151, k 13.5 and 80 seconds, at 600 sets a second. */
+static void check_entries(void)
+{
+    static const uint32_t some[6][3] = {{1, 11, 81000},  {1, 20, 8100},
+                                        {1, 200, 427},   {2, 11, 228572},
+                                        {2, 20, 16000},  {2, 200, 121}};
+
+    for (size_t i = 0; i < 6; i++)
+        meet("entry by hand", curve_entry(some[i][0], some[i][1]), some[i][2]);
+    for (int64_t j = 11; j <= 200; j++) {
+        const int64_t top[2] = {81000, 4800000}, bottom[2] = {j - 10, j * j - 100};
+        const double times = (double)j / 10;
+        const double time[2] = {13.5 / (times - 1), 80 / (times * times - 1)};
+
+        for (unsigned c = 0; c < CURVES; c++) {
+            int64_t n = curve_entry(c + 1, (unsigned)j);
+            double more = (double)n - 600 * time[c];
+
+            meet("entry enough", n * bottom[c] >= top[c], 1);
+            meet("entry least", (n - 1) * bottom[c] < top[c], 1);
+            meet("entry by its time", more > -1e-6 && more < 1 - 1e-6, 1);
+        }
+    }
+}
+
+/* Elements of the steps: at j below 11, 11, to 199, 200, above; sums cleared and
+ * stopped at the limit; trips; sums that stay at unused ends, at curve 0, while
+ * filling, and at refused sets. */
+static struct {
+    unsigned tenths[5], moved[3], stays[4];
+} steps;
+
+/* j by the words of card 6: X goes so often into 10 A. */
+static int64_t reads_tenths(const struct relay *relay, size_t z)
+{
+    int64_t a = 0, j = 0;
+
+    for (size_t y = 0; y < SYSTEMS; y++) {
+        int32_t u[WINDOW_SETS];
+        int64_t one;
+
+        for (size_t k = 0; k < WINDOW_SETS; k++)
+            u[k] = relay->values[12 * k + 3 * z + y];
+        one = defined_amplitude(u, 1);
+        a = one > a ? one : a;
+    }
+    while ((j + 1) * relay->setting.overcurrent <= 10 * a)
+        j++;
+    return j;
+}
+
+/* The table entry by trying, and how often it goes into 1,000,000,000. */
+static int64_t reads_growth(unsigned curve, int64_t j)
+{
+    int64_t top = curve == 1 ? 81000 : 4800000, n = 0, growth = 0;
+    int64_t bottom = curve == 1 ? j - 10 : j * j - 100;
+
+    while (n * bottom < top)
+        n++;
+    for (int64_t bit = (int64_t)1 << 24; bit != 0; bit >>= 1)
+        if ((growth + bit) * n <= 1000000000)
+            growth += bit;
+    return growth;
+}
+
+/* An end in use after a measured set: its sum by the words of card 6. */
+static int64_t reads_sum(const struct relay *before, const struct relay *relay,
+                         size_t z)
+{
+    int64_t j = reads_tenths(relay, z), sum = before->sums[z];
+
+    steps.tenths[j < 11 ? 0 : j == 11 ? 1 : j < 200 ? 2 : j == 200 ? 3 : 4]++;
+    steps.moved[0] += j < 11 && sum != 0;
+    if (j < 11)
+        return 0;
+    sum += reads_growth(relay->setting.curve, j > 200 ? 200 : j);
+    steps.moved[1] += sum > 1000000000;
+    return sum > 1000000000 ? 1000000000 : sum;
+}
+
+/* Sums and trips after a sample call, at each end. */
+static void meet_elements(const struct relay *before, const struct relay *relay,
+                          enum refusal refusal, const struct answer *a)
+{
+    const struct setting *s = &relay->setting;
+    int full = refusal == ACCEPTED && relay->fill == WINDOW_SETS;
+
+    for (size_t z = 0; z < MAX_ENDS; z++) {
+        int moves = full && s->curve != 0 && z < s->ends;
+        int64_t sum = moves ? reads_sum(before, relay, z) : before->sums[z];
+        int trip = before->trips[z] || (moves && sum == 1000000000);
+
+        meet("sum", relay->sums[z], sum);
+        meet("trip", relay->trips[z], trip);
+        meet("trip told", a->tripped[z], full && trip);
+        steps.moved[2] += trip && !before->trips[z];
+        if (!moves && sum != 0)
+            steps.stays[!full ? 2 + (refusal != ACCEPTED) : s->curve == 0]++;
+    }
+}
+
+/* X where 10 A of an end over twelve sets is just a multiple of it, or just not. */
+static void aim_overcurrent(struct draw *d, const int16_t *list, struct setting *s)
+{
+    static const uint16_t tenths[8] = {10, 11, 11, 12, 100, 199, 200, 201};
+    size_t z = (size_t)draw_from(d, 0, s->ends - 1);
+    int32_t values[WINDOW_NUMBERS];
+    int64_t x;
+
+    for (size_t k = 0; k < WINDOW_SETS; k++)
+        match_set(s, list + 12 * k, values + 12 * k);
+    x = 10 * (int64_t)end_amplitude(values, z) / tenths[draw_from(d, 0, 7)];
+    x += draw_from(d, 0, 1);
+    if (s->curve != 0 && x >= 200 && x <= 4000)
+        s->overcurrent = (uint16_t)x;
+}
+
+/* A relay before a step: its window from twelve sets of a wave, a thirteenth is the
+ * step's; sums over their range, some near its end. */
+static void draw_step(struct draw *d, unsigned i, struct relay *relay, int16_t *list)
+{
+    struct setting s;
+    struct wave wave;
+
+    draw_setting(d, (uint8_t)(2 + i % 3), &s);
+    draw_overcurrent(d, (uint8_t)(i % 16 == 0 ? 0 : 1 + i / 3 % 2), &s);
+    draw_wave(d, &s, draw_spread(d, 200, 60000), i / 6 % 4, &wave);
+    for (size_t k = 0; k <= WINDOW_SETS; k++)
+        wave_set(&wave, &s, k, list + 12 * k);
+    aim_overcurrent(d, list + 12, &s);
+    start_near(&s, relay);
+    for (size_t k = 0; k < WINDOW_SETS; k++)
+        match_set(&s, list + 12 * k, relay->values + 12 * k);
+    relay->fill = (uint32_t)(draw_chance(d, 90) ? 12 : draw_from(d, 0, 11));
+    for (size_t z = 0; z < MAX_ENDS; z++) {
+        int64_t left = draw_spread(d, 0, draw_chance(d, 50) ? 10000000 : SUM_LIMIT);
+
+        relay->sums[z] = (uint32_t)(draw_chance(d, 10) ? 0 : SUM_LIMIT - left);
+        relay->trips[z] = (uint8_t)draw_chance(d, 20);
+    }
+}
+
+/* A reset of a relay with sums and trips, by its call or by the page. */
+static void meet_cleared(struct relay *relay, int by_page)
+{
+    meet("reset", by_page ? relay_write(relay, 7, 1) : relay_reset(relay), 0);
+    for (size_t z = 0; z < MAX_ENDS; z++)
+        meet("cleared", relay->sums[z] + relay->trips[z], 0);
+}
+
+/* Tells numbers of the steps; each of them is there some hundred times. */
+static void tell_steps(const char *what, const unsigned *number, size_t n)
+{
+    printf("second: %u steps of overcurrent, %s", DRAWN_STEPS, what);
+    for (size_t i = 0; i < n; i++) {
+        meet("hundreds of steps", number[i] >= 200, 1);
+        printf(" %u%s", number[i], i + 1 < n ? "," : "\n");
+    }
+}
+
+/* Single sets against the words of card 6; some are refused, some resets follow. */
+static void check_steps(void)
+{
+    int16_t list[13 * SET_NUMBERS], *set = list + 12 * SET_NUMBERS;
+    struct draw d = {0x5CE6};
+    struct relay relay;
+
+    for (unsigned i = 0; i < DRAWN_STEPS; i++) {
+        struct answer a = {0};
+        struct relay before;
+        enum refusal refusal;
+
+        draw_step(&d, i, &relay, list);
+        if (draw_chance(&d, 5))
+            spoil_set(&d, &relay.setting, set);
+        before = relay;
+        refusal = relay_sample(&relay, set, draw_chance(&d, 3) ? 11 : 12, &a);
+        meet_elements(&before, &relay, refusal, &a);
+        if (i % 5 == 0)
+            meet_cleared(&relay, i % 2);
+    }
+    tell_steps("j below 11, 11, to 199, 200, above:", steps.tenths, 5);
+    tell_steps("sums cleared, stopped; trips:", steps.moved, 3);
+    tell_steps("sums that stay, unused, off, filling, refused:", steps.stays, 4);
+}
+
+/* Measured sets of a steady j until the element of end 1 trips, from a sum on, X
+ * being 200. */
+static unsigned sets_to_trip(unsigned curve, int32_t j, uint32_t from)
+{
+    const struct wave wave = {.cosine = {{[4] = 20 * j + 10}}};
+    struct setting s = plain_setting;
+    int16_t list[SET_NUMBERS];
+    struct relay relay;
+    struct answer a = {0};
+    unsigned sets = 0;
+    size_t offset;
+
+    s.curve = (uint8_t)curve;
+    s.overcurrent = 200;
+    meet("start", relay_start(&s, &relay, &offset), 0);
+    relay.sums[1] = from;
+    for (size_t k = 0; !a.tripped[1] && k < 10000; k++) {
+        wave_set(&wave, &s, k, list);
+        relay_sample(&relay, list, SET_NUMBERS, &a);
+        sets += a.filling == 0;
+    }
+    meet("sum at the trip", relay.sums[1], 1000000000);
+    meet("other end", relay.sums[0] + relay.trips[0], 0);
+    return sets;
+}
+
+/* At each j of both curves: a trip at the least number of sets whose growth comes to
+ * 1,000,000,000; where j is low, from a sum that leaves a thousand sets to grow. */
+static void check_times(void)
+{
+    unsigned all = 0;
+
+    for (unsigned i = 0; i < CURVES * 190; i++) {
+        unsigned curve = 1 + i / 190, sets;
+        int32_t j = 11 + (int32_t)i % 190;
+        int64_t growth = reads_growth(curve, j), wanted = 0;
+        int64_t left = j < 30 ? 1000 * growth - j : 1000000000;
+
+        while (wanted * growth < left)
+            wanted++;
+        sets = sets_to_trip(curve, j, (uint32_t)(1000000000 - left));
+        meet("sets to a trip", sets, wanted);
+        all += sets;
+    }
+    printf("second: %u runs at steady j, %u measured sets\n", CURVES * 190, all);
+}
+
+/* The same calls on relays of each curve: the same but for sums and trips. */
+static void apart_list(struct draw *d, const struct scene *scene)
+{
+    int16_t list[SET_NUMBERS];
+    struct relay relay[3], bare[3];
+    struct setting s = scene->setting;
+
+    for (uint8_t c = 0; c < 3; c++) {
+        draw_overcurrent(d, c, &s);
+        start_near(&s, &relay[c]);
+    }
+    for (size_t k = 0; k < TURNED_CALLS; k++) {
+        struct answer a[3] = {{0}};
+        int reset = draw_chance(d, 4), refusal[3];
+
+        turned_set(d, scene, k, list);
+        for (size_t c = 0; c < 3; c++) {
+            refusal[c] = reset ? relay_reset(&relay[c])
+                               : relay_sample(&relay[c], list, SET_NUMBERS, &a[c]);
+            bare[c] = relay[c];
+            bare[c].setting.curve = 0;
+            bare[c].setting.overcurrent = 0;
+            memset(bare[c].sums, 0, sizeof bare[c].sums);
+            memset(bare[c].trips, 0, sizeof bare[c].trips);
+            memset(a[c].tripped, 0, sizeof a[c].tripped);
+            meet("answer apart", answer_same(&a[c], &a[0]), 1);
+            meet("record apart", memcmp(&bare[c], &bare[0], sizeof bare[0]), 0);
+            meet("refusal apart", refusal[c], refusal[0]);
+        }
+    }
+}
+
+/* Answers of the differential element are the same whatever curve and X are. */
+static void check_apart(void)
+{
+    struct draw d = {0xA9A27};
+    struct scene scene;
+
+    for (unsigned i = 0; i < APART_LISTS; i++) {
+        draw_turned(&d, i, &scene);
+        apart_list(&d, &scene);
+    }
+    printf("second: %u lists on each curve\n", APART_LISTS);
+}
+
 /* A record may hold any numbers at its unused ends: they are in no current. */
 static void check_unused_places(void)
 {
@@ -1852,6 +2174,10 @@ int main(void)
     check_page();
     check_paged_lists();
     check_common_blocking();
+    check_entries();
+    check_steps();
+    check_times();
+    check_apart();
     check_unused_places();
     check_measured_pairs();
     if (failures != 0) {

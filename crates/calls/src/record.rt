@@ -2,9 +2,12 @@
 
 ghost use mathlib.Core.Path.{_≡_};
 ghost use lib.ListN.{length};
+use overcurrent::Backup;
+use overcurrent::Timer;
 use page::Events;
 use relay::Relay;
 use setting::End;
+use setting::Overcurrent;
 use setting::Setting;
 use setting::Thresholds;
 use state::Element;
@@ -142,10 +145,21 @@ fn changed_setting(old: Setting, x: Change) -> Setting {
     if at < 60 {
         return changed_ends(old, x);
     }
-    let t = old.thresholds;
-    let new = changed_thresholds(t, x);
+    if at < 74 {
+        let t = old.thresholds;
+        let new = changed_thresholds(t, x);
+        let mut v = old;
+        v.thresholds = new;
+        return v;
+    }
+    let mut o = old.overcurrent;
+    if at == 74 {
+        o.pickup = x.half;
+    } else {
+        o.curve = x.byte;
+    }
     let mut v = old;
-    v.thresholds = new;
+    v.overcurrent = o;
     v
 }
 
@@ -211,7 +225,43 @@ fn changed_events(old: Events, x: Change) -> Events {
     e
 }
 
-// The record with a part changed: 0 a setting value, 1 the fill, 2 a matched number, 3 a counter, 4 flags or interrupt mask.
+// A sum (5) or a trip (6) changed.
+fn changed_timer(old: Timer, x: Change) -> Timer {
+    let mut t = old;
+    if x.part == 5 {
+        t.sum = x.word;
+    } else {
+        t.trip = x.byte != 0;
+    }
+    t
+}
+
+// The overcurrent elements with that of an end changed.
+fn changed_backup(old: Backup, x: Change) -> Backup {
+    let end = x.which;
+    let mut b = old;
+    match end {
+        0 => {
+            let t = changed_timer(b.e0, x);
+            b.e0 = t;
+        }
+        1 => {
+            let t = changed_timer(b.e1, x);
+            b.e1 = t;
+        }
+        2 => {
+            let t = changed_timer(b.e2, x);
+            b.e2 = t;
+        }
+        _ => {
+            let t = changed_timer(b.e3, x);
+            b.e3 = t;
+        }
+    }
+    b
+}
+
+// The record with a part changed: 0 a setting value, 1 the fill, 2 a matched number, 3 a counter, 4 flags or interrupt mask, 5 a sum, 6 a trip of an end.
 fn changed(old: Relay, x: Change) -> Relay {
     let part = x.part;
     let mut r = old;
@@ -238,9 +288,15 @@ fn changed(old: Relay, x: Change) -> Relay {
         r.trip = new;
         return r;
     }
-    let e = r.events;
-    let new = changed_events(e, x);
-    r.events = new;
+    if part == 4 {
+        let e = r.events;
+        let new = changed_events(e, x);
+        r.events = new;
+        return r;
+    }
+    let b = r.backup;
+    let new = changed_backup(b, x);
+    r.backup = new;
     r
 }
 
@@ -275,6 +331,7 @@ fn print_setting(v: Setting) {
     let e2 = v.e2;
     let e3 = v.e3;
     let t = v.thresholds;
+    let o = v.overcurrent;
     text::print_field(v.ends as u64);
     text::print_field(v.flags as u64);
     text::print_field(v.confirm as u64);
@@ -284,6 +341,8 @@ fn print_setting(v: Setting) {
     print_end(e2);
     print_end(e3);
     print_thresholds(t);
+    text::print_field(o.pickup as u64);
+    text::print_field(o.curve as u64);
 }
 
 fn print_numbers(values: [i32; 144]) {
@@ -299,12 +358,19 @@ fn print_element(e: Element) {
     text::print_flag(e.latch);
 }
 
-// A line of the whole record: the setting values, the fill, counter and latch of each system, flags and interrupt mask, and the matched numbers.
+fn print_timer(t: Timer) {
+    text::print_field(t.sum as u64);
+    text::print_flag(t.trip);
+}
+
+// A line of the whole record: the setting values, the fill, counter and latch of each system, flags and interrupt mask, sum and trip of each end, and the
+// matched numbers.
 pub fn print_record(r: Relay) {
     let v = r.setting;
     let w = r.window;
     let t = r.trip;
     let e = r.events;
+    let b = r.backup;
     let values = w.values;
     io::write_all(1, b"record");
     print_setting(v);
@@ -314,6 +380,10 @@ pub fn print_record(r: Relay) {
     print_element(t.c);
     text::print_field(e.flags as u64);
     text::print_field(e.mask as u64);
+    print_timer(b.e0);
+    print_timer(b.e1);
+    print_timer(b.e2);
+    print_timer(b.e3);
     print_numbers(values);
     text::end_line();
 }

@@ -23,7 +23,7 @@ fn put_answer(buffer: &mut [u8], at: usize, answer: Answer) -> usize
     requires { ⌜ at + 35 ≤ length (now buffer) ⌝ }
     ensures { λ r. ⌜ PutsFew 35 (columnsOf answer) (now (buffer .entry)) at (now (buffer .exit)) r ⌝ }
 {
-    let Answer::Measured(a, b, c) = answer else {
+    let Answer::Measured(a, b, c, _) = answer else {
         let after = text::put(buffer, at, b" F");
         return put_currents(buffer, after, 0, 0, 0);
     };

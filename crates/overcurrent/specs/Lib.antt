@@ -1,5 +1,6 @@
 pub mod Curves
 pub mod Timers
+pub mod Watching
 pub mod Rows
 pub mod Planning
 pub mod Worked

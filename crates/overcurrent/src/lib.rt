@@ -1,6 +1,7 @@
 // Backup overcurrent: the inverse-time element of each end, its sum and its trip.
 
 pub mod curves;
+pub mod watching;
 
 ghost use mathlib.Core.Path.{_≡_};
 ghost use mathlib.Core.Bool.{cond};
@@ -12,6 +13,7 @@ ghost use Rattle.overcurrent.specs.Timers.{multiple as multipleOf, mostS
 ghost use Rattle.overcurrent.specs.Timers.{tripsOf, sumsWithin, TimerInput, BackupInput};
 ghost use Rattle.overcurrent.specs.Rows.{SummedInARow, TrippedInARow};
 ghost use Rattle.overcurrent.specs.Planning.{PickUp, Unmoved, HeldTrips};
+use measuring::Readings;
 
 // The sum and the trip of an end, and those of the four.
 pub struct Timer {
@@ -32,6 +34,12 @@ pub struct Trips {
     pub e1: bool,
     pub e2: bool,
     pub e3: bool,
+}
+
+// What is measured of a full window, and sums and trips after it.
+pub struct Watched {
+    pub readings: Readings,
+    pub backup: Backup,
 }
 
 // j, the multiple of the pick-up in tenths: at most 200.

@@ -27,6 +27,6 @@ module _ (r : Relay) where
   unfolding admissible
   inadmissible = hold-not (admissions r)
 
-  pub last-admits : Each T (take 4 (admissions r)) → getD (admissions r) 4 true ≡ admissible r
+  pub last-admits : Each T (take 5 (admissions r)) → getD (admissions r) 5 true ≡ admissible r
   unfolding admissible
-  last-admits h = hold-last (take 4 (admissions r)) h _
+  last-admits h = hold-last (take 5 (admissions r)) h _

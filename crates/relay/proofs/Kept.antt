@@ -16,15 +16,18 @@ use Rattle.setting.specs.declared.Setting.{Setting}
 use Rattle.setting.specs.Values.{startable}
 use Rattle.matching.specs.Sets.{numbers}
 use Rattle.state.specs.declared.Window.{Window}
-use Rattle.state.specs.State.{elementOf, perSystem, clear, countersWithin}
+use Rattle.state.specs.State.{elementOf, perSystem, clear, countersWithin, full}
 use Rattle.state.proofs.Placed.{sized-test, windowWith-fill}
 use Rattle.state.proofs.Elements.{counters-test, element-≤}
 use Rattle.relay.specs.declared.Relay.{Relay}
+use Rattle.overcurrent.specs.Timers.{sumsWithin}
+use Rattle.overcurrent.specs.Watching.{backupBy}
+use Rattle.overcurrent.proofs.TimerLaws.{within-after, within-idle}
 use Rattle.page.specs.declared.Events.{Events}
 use Rattle.page.specs.Events.{within, written as writtenEvents}
 use Rattle.page.proofs.EventLaws.{raised-within, written-within}
 use Rattle.relay.specs.Record.{fresh, admissions, admissible, withEvents}
-use Rattle.relay.specs.Calls.{accepted, windowAfter, elementNow, replyNow, relayNow, refusedRelay, sampleReply, sampleRelay, resetReply, cleared}
+use Rattle.relay.specs.Calls.{accepted, windowAfter, elementNow, backupNow, replyNow, relayNow, refusedRelay, sampleReply, sampleRelay, resetReply, cleared}
 use Rattle.relay.specs.Page.{pageOf, beyond, fixed, readReply, resets, writeReply, writeRelay}
 use Rattle.relay.specs.Lists.{Call, sample, reset, read, write, after}
 use Rattle.relay.proofs.Admission.{is-T, admitted, admissible-of}
@@ -56,7 +59,13 @@ module _ (r : Relay) (a : admissible r ≡ true) where
   unfolding admissible cleared
   cleared-admissible =
       let at : (k : ℕ) → getD (admissions r) k true ≡ true = λ k. is-true (admitted r a k) in
-      simp (at 0, at 1, at 2, none-counted (r .setting .confirm), at 4)
+      simp (at 0, at 1, at 2, none-counted (r .setting .confirm), at 4, within-idle)
+
+  -- sums after a set
+  backup-within : (w : Window) (b : Bool) → full w ≡ b → T (hold (sumsWithin (backupNow r w)))
+  unfolding backupNow backupBy
+  backup-within w true e = rw e (is-T (within-after _ _ _ _ (r .backup) (is-true (admitted r a 5))))
+  backup-within w false e = rw e (admitted r a 5)
 
   -- with an accepted set filed
   now-admissible : (xs : List ℤ) → T (accepted (r .setting) xs) → admissible (relayNow r (windowAfter r xs)) ≡ true
@@ -69,11 +78,12 @@ module _ (r : Relay) (a : admissible r ≡ true) where
       & sized-test (window-sized r xs a (reach (r .setting) xs t))
       & counters-test M (elementNow r (windowAfter r xs)) (λ l. element-≤ M _ (elementOf (r .trip) l))
       & raised-within (r .events) (admitted r a 4) _
+      & backup-within (windowAfter r xs) (full (windowAfter r xs)) refl
       & none)
 
   -- with other events
   events-admissible : (e : Events) → T (hold (within e)) → admissible (withEvents r e) ≡ true
-  events-admissible e h = admissible-of (withEvents r e) (admitted r a 0 & admitted r a 1 & admitted r a 2 & admitted r a 3 & h & none)
+  events-admissible e h = admissible-of (withEvents r e) (admitted r a 0 & admitted r a 1 & admitted r a 2 & admitted r a 3 & h & admitted r a 5 & none)
 
 -- ---- one call
 

@@ -19,12 +19,13 @@ use Rattle.refusal.proofs.Stops.{none-of}
 use Rattle.setting.specs.declared.Setting.{Setting}
 use Rattle.setting.specs.Values.{startable}
 use Rattle.setting.specs.Limits.{Limits}
-use Rattle.setting.proofs.LimitLaws.{startable-is}
+use Rattle.setting.proofs.LimitLaws.{startable-is, timers-on}
 use Rattle.matching.specs.Sets.{System, sysA, sysB, sysC, seen, phases, matchedAt, numbers, system}
 use Rattle.matching.specs.Bank.{InReach, MatchedBound}
 use Rattle.matching.specs.Weights.{weightsOf}
 use Rattle.matching.specs.MatchingInput.{SetInput}
 use Rattle.measuring.specs.WindowInput.{Measurable}
+use Rattle.overcurrent.specs.Watching.{WatchInput}
 use Rattle.state.specs.declared.Window.{Window}
 use Rattle.state.proofs.Placed.{Sized, zero-sized, numbers-sized, windowWith-sized}
 use Rattle.relay.specs.declared.Relay.{Relay}
@@ -77,6 +78,10 @@ module _ (r : Relay) (a : admissible r ≡ true) where
 
   pub held : Held (r .setting) (r .window)
   held = record { sound = admitted r a 0; few = few-held; small = admitted r a 2 }
+
+  -- a full window of its setting, with the sums that it holds
+  pub watch-ready : (win : List ℤ) → Measurable (r .setting) win → WatchInput (r .setting) win (r .backup)
+  watch-ready win m = record { measurable = m; on = timers-on (r .setting) (admitted r a 0); sums = admitted r a 5 }
 
 module _ (r : Relay) (xs : List ℤ) (a : admissible r ≡ true) where
   -- the numbers of the window with the set filed

@@ -12,12 +12,15 @@ use Rattle.state.specs.declared.Window.{Window}
 use Rattle.relay.specs.declared.Relay.{Relay}
 use Rattle.state.specs.State.{elementAfter, latchesOf, full}
 use Rattle.state.proofs.Elements.{latch-kept}
+use Rattle.overcurrent.specs.declared.Backup.{Backup}
+use Rattle.overcurrent.specs.Timers.{tripsOf}
+use Rattle.overcurrent.specs.Watching.{backupBy}
 use Rattle.page.specs.declared.Events.{Events}
 use Rattle.page.specs.Events.{newFlags, raised}
 use Rattle.page.specs.Page.{startsOf}
 use Rattle.page.proofs.EventLaws.{no-bit, not-new, raised-none}
 use Rattle.relay.specs.Record.{admissible}
-use Rattle.relay.specs.Calls.{Reply, filling, measured, tripNow, startsBy, flagsNow, eventsNow, replyNow, relayNow}
+use Rattle.relay.specs.Calls.{Reply, filling, measured, tripNow, startsBy, flagsNow, eventsNow, backupNow, replyNow, relayNow}
 use Rattle.relay.specs.CallInput.{tripAfter}
 use Rattle.relay.proofs.Admission.{admitted}
 
@@ -42,8 +45,9 @@ module _ (r : Relay) (w : Window) where
       a ≡ elementAfter (r .setting .confirm) false (r .trip .a) →
       b ≡ elementAfter (r .setting .confirm) false (r .trip .b) →
       c ≡ elementAfter (r .setting .confirm) false (r .trip .c) →
-      _≡_ {A = Relay} (record { setting = r .setting; window = w; trip = record { a = a; b = b; c = c }; events = r .events }) (relayNow r w)
-  unfolding relayNow
+      _≡_ {A = Relay} (record { setting = r .setting; window = w; trip = record { a = a; b = b; c = c }; events = r .events; backup = r .backup })
+      (relayNow r w)
+  unfolding relayNow backupNow
   filling-relay e adm p q s = rw (filling-events e adm, p, q, s, e)
 
   module _ (full-now : full w ≡ true) {m : Readings} (e : m ≡ readingsOf (r .setting) (w .values)) {t : Trip} (p : t ≡ tripAfter (r .setting) m (r .trip)) where
@@ -51,18 +55,20 @@ module _ (r : Relay) (w : Window) where
     unfolding readingsOf readingOf
     measured-trip = rw (p, e, full-now)
 
-    pub measured-reply :
-        _≡_ {A = Outcome Reply}
-        (gives
-        (measured
-        (record { reading = m .a; latched = t .a .latch })
-        (record { reading = m .b; latched = t .b .latch })
-        (record { reading = m .c; latched = t .c .latch })))
-        (gives (replyNow r w))
-    unfolding replyNow readingsOf readingOf
-    measured-reply = rw (measured-trip, e, full-now)
+    module _ {b : Backup} (after : b ≡ backupBy (r .setting) (w .values) (r .backup)) where
+      pub measured-reply :
+          _≡_ {A = Outcome Reply}
+          (gives
+          (measured
+          (record { reading = m .a; latched = t .a .latch })
+          (record { reading = m .b; latched = t .b .latch })
+          (record { reading = m .c; latched = t .c .latch })
+          (tripsOf b)))
+          (gives (replyNow r w))
+      unfolding replyNow backupNow readingsOf readingOf
+      measured-reply = rw (measured-trip, e, after, full-now)
 
-    pub measured-relay : {n : Events} → n ≡ raised (newFlags (startsBy r (r .window)) (startsOf m) (latchesOf (r .trip)) (latchesOf t)) (r .events) →
-        _≡_ {A = Relay} (record { setting = r .setting; window = w; trip = t; events = n }) (relayNow r w)
-    unfolding relayNow readingsOf readingOf
-    measured-relay n = rw (n, measured-trip, e, full-now)
+      pub measured-relay : {n : Events} → n ≡ raised (newFlags (startsBy r (r .window)) (startsOf m) (latchesOf (r .trip)) (latchesOf t)) (r .events) →
+          _≡_ {A = Relay} (record { setting = r .setting; window = w; trip = t; events = n; backup = b }) (relayNow r w)
+      unfolding relayNow backupNow readingsOf readingOf
+      measured-relay n = rw (n, measured-trip, e, after, full-now)

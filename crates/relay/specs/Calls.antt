@@ -1,4 +1,4 @@
--- Starting, sample and reset (document 01, "Characteristic and trip" and "What the relay declines"; event flags by 02, card 2).
+-- Starting, sample and reset (document 01, "Characteristic and trip" and "What the relay declines"; event flags by 02, card 2, overcurrent by card 6).
 use mathlib.Core.Path.{_≡_}
 use mathlib.Core.Bool.{Bool, not, _&&_, _||_, cond}
 use mathlib.Core.List.{List, [], _∷_}
@@ -27,6 +27,10 @@ use Rattle.relay.specs.declared.Returned.{Returned}
 use Rattle.characteristic.specs.Characteristic.{counts}
 use Rattle.measuring.specs.Measuring.{differential, start, blocked, readingOf}
 use Rattle.state.specs.State.{elementOf, perSystem, elementAfter, clear, latchesOf, windowWith, full}
+use Rattle.overcurrent.specs.declared.Backup.{Backup}
+use Rattle.overcurrent.specs.declared.Trips.{Trips}
+use Rattle.overcurrent.specs.Timers.{perEnd, idle, tripsOf}
+use Rattle.overcurrent.specs.Watching.{backupBy}
 use Rattle.page.specs.declared.Events.{Events}
 use Rattle.page.specs.Events.{newFlags, refusedSet, raised}
 use Rattle.page.specs.Page.{startsOf, shown}
@@ -63,7 +67,7 @@ sampleRows r xs = (12 when not (admissible r)) ∷ setRows (r .setting) xs
 -- An accepted set answers Filling with the number held, or Measured.
 pub data Reply : Type 0 where
   filling : ℕ → Reply
-  measured : (a b c : Measure) → Reply
+  measured : (a b c : Measure) (trips : Trips) → Reply
 
 -- the window with the set's matched numbers filed
 abbrev pub windowAfter : Relay → List ℤ → Window
@@ -83,8 +87,14 @@ tripNow r w = perSystem (elementNow r w)
 abbrev pub measureNow : Relay → Window → System → Measure
 measureNow r w l = record { reading = readingOf (r .setting) (w .values) l; latched = elementNow r w l .latch }
 
+-- sums and trips of the overcurrent elements: while the window fills they stay (02, card 6)
+unfoldable pub backupNow : Relay → Window → Backup
+backupNow r w = cond (full w) (backupBy (r .setting) (w .values) (r .backup)) (r .backup)
+
+-- Measured carries these trips, apart from the latches
 unfoldable pub replyNow : Relay → Window → Reply
-replyNow r w = cond (full w) (measured (measureNow r w sysA) (measureNow r w sysB) (measureNow r w sysC)) (filling (w .fill))
+replyNow r w =
+    cond (full w) (measured (measureNow r w sysA) (measureNow r w sysB) (measureNow r w sysC) (tripsOf (backupNow r w))) (filling (w .fill))
 
 -- ---- the record after it, with the flags that it raises (02, card 2)
 
@@ -100,7 +110,7 @@ abbrev pub eventsNow : Relay → Window → Events
 eventsNow r w = raised (flagsNow r w) (r .events)
 
 unfoldable pub relayNow : Relay → Window → Relay
-relayNow r w = record { setting = r .setting; window = w; trip = tripNow r w; events = eventsNow r w }
+relayNow r w = record { setting = r .setting; window = w; trip = tripNow r w; events = eventsNow r w; backup = backupNow r w }
 
 -- a refused set raises flag bit 2, and leaves all else of the record as before
 unfoldable pub refusedRelay : Relay → Relay
@@ -125,7 +135,7 @@ sampleRelay r xs = byOutcome (sampleReply r xs) (leftAt r) (λ reply. relayNow r
 -- the sample call's answer in the table's terms
 abbrev pub outcomeOf : Answer → Outcome Reply
 outcomeOf (Filling n) = gives (filling n)
-outcomeOf (Measured a b c) = gives (measured a b c)
+outcomeOf (Measured a b c t) = gives (measured a b c t)
 outcomeOf (Refused r) = declines (toldOf r)
 
 -- an answer and a record
@@ -136,13 +146,14 @@ pub record Gives (o : Outcome Reply) (after : Relay) (s : Sampled) : Type 0 wher
 abbrev pub Samples : Relay → List ℤ → Sampled → Type 0
 Samples r xs s = Gives (sampleReply r xs) (sampleRelay r xs) s
 
--- ---- reset: 12; it clears counters and latches, not windows; flags and interrupt mask stay
+-- ---- reset: 12; it clears counters and latches, not windows; flags and interrupt mask stay; it clears overcurrent sums and their trips (02, card 6)
 
 unfoldable pub resetRows : Relay → List Row
 resetRows r = (12 when not (admissible r)) ∷ []
 
 unfoldable pub cleared : Relay → Relay
-cleared r = record { setting = r .setting; window = r .window; trip = perSystem (λ l. clear); events = r .events }
+cleared r =
+    record { setting = r .setting; window = r .window; trip = perSystem (λ l. clear); events = r .events; backup = perEnd (λ z. idle) }
 
 abbrev pub resetReply : Relay → Outcome (Unit {0})
 resetReply r = firstRefusal (resetRows r)

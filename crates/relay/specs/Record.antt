@@ -1,4 +1,4 @@
--- The relay record, and which records are admissible (document 01, "Characteristic and trip" and refusal 12; 02, card 2).
+-- The relay record, and which records are admissible (document 01, "Characteristic and trip" and refusal 12; 02, cards 2 and 6).
 use mathlib.Core.Bool.{Bool}
 use mathlib.Core.List.{List, [], _∷_}
 use lib.Dec.{leb}
@@ -10,6 +10,7 @@ use Rattle.setting.specs.Values.{startable}
 use Rattle.state.specs.State.{perSystem, clear, numberWithin, countersWithin}
 use Rattle.page.specs.declared.Events.{Events}
 use Rattle.page.specs.Events.{quiet, within}
+use Rattle.overcurrent.specs.Timers.{perEnd, idle, sumsWithin}
 use Rattle.relay.specs.declared.Relay.{Relay}
 
 -- ---- a fresh relay: the values of its setting, empty windows, all else zero or clear
@@ -21,6 +22,7 @@ fresh v =
       window = record { values = replicate 144 (pos 0); fill = 0 };
       trip = perSystem (λ l. clear);
       events = quiet;
+      backup = perEnd (λ z. idle);
     }
 
 -- ---- refusal 12: a record is inadmissible where one of these tests fails
@@ -37,6 +39,8 @@ admissions r =
     ∷ hold (countersWithin (r .setting .confirm) (r .trip))
     -- flags or interrupt mask above 7
     ∷ hold (within (r .events))
+    -- a larger sum than 1,000,000,000
+    ∷ hold (sumsWithin (r .backup))
     ∷ []
 
 unfoldable pub admissible : Relay → Bool
@@ -45,4 +49,4 @@ admissible r = hold (admissions r)
 -- ---- the record with other events, and all else as it was
 
 abbrev pub withEvents : Relay → Events → Relay
-withEvents r e = record { setting = r .setting; window = r .window; trip = r .trip; events = e }
+withEvents r e = record { setting = r .setting; window = r .window; trip = r .trip; events = e; backup = r .backup }

@@ -34,7 +34,10 @@ pub fn admissible(r: Relay) -> bool
     if !state::counters_within(v.confirm, t) {
         return false;
     }
-    page::within(r.events)
+    if !page::within(r.events) {
+        return false;
+    }
+    overcurrent::within(r.backup)
 }
 
 // No sample beyond 32,000.

@@ -16,6 +16,7 @@ use crate::starting;
 use bits::Bits;
 use measuring::Reading;
 use measuring::Readings;
+use overcurrent::Backup;
 use page::Events;
 use refusal::Refusal;
 use refusal::Verdict;
@@ -47,9 +48,9 @@ pub fn trip_after(v: Setting, m: Readings, t: Trip) -> Trip
     }
 }
 
-// The record with a set filed: the window with it, counters and latches after it, and the events.
-fn filed(r: Relay, w: Window, trip: Trip, events: Events) -> Relay
-    ensures { λ s. ⌜ s ≡ record { setting = r .setting; window = w; trip = trip; events = events } ⌝ }
+// The record with a set filed: the window with it, and what it leaves of the other parts.
+fn filed(r: Relay, w: Window, trip: Trip, events: Events, backup: Backup) -> Relay
+    ensures { λ s. ⌜ s ≡ record { setting = r .setting; window = w; trip = trip; events = events; backup = backup } ⌝ }
 {
     let v = r.setting;
     Relay {
@@ -57,10 +58,11 @@ fn filed(r: Relay, w: Window, trip: Trip, events: Events) -> Relay
         window: w,
         trip: trip,
         events: events,
+        backup: backup,
     }
 }
 
-// A set filed in a window that is not full yet: the number held, counters cleared.
+// A set filed in a window that is not full yet: the number held, counters cleared; overcurrent sums stay.
 fn filling(r: Relay, w: Window) -> Sampled
     requires { ⌜ FillingNow r w ⌝ }
     ensures { λ s. ⌜ Gives (gives (replyNow r w)) (relayNow r w) s ⌝ }
@@ -74,7 +76,7 @@ fn filling(r: Relay, w: Window) -> Sampled
     };
     Sampled {
         answer: Answer::Filling(w.fill),
-        relay: filed(r, w, trip, r.events),
+        relay: filed(r, w, trip, r.events, r.backup),
     }
 }
 
@@ -86,7 +88,9 @@ fn measured(r: Relay, w: Window) -> Sampled
     let v = r.setting;
     let t = r.trip;
     let values = w.values;
-    let m = measuring::measure(v, &values);
+    let full = overcurrent::watching::measured(v, &values, r.backup);
+    let m = full.readings;
+    let backup = full.backup;
     let trip = trip_after(v, m, t);
     let events = page::noting::events_after(v, r.window, t, r.events, m, trip);
     let in_a = m.a;
@@ -105,8 +109,8 @@ fn measured(r: Relay, w: Window) -> Sampled
         latched: trip.c.latch,
     };
     Sampled {
-        answer: Answer::Measured(of_a, of_b, of_c),
-        relay: filed(r, w, trip, events),
+        answer: Answer::Measured(of_a, of_b, of_c, overcurrent::tripped(backup)),
+        relay: filed(r, w, trip, events, backup),
     }
 }
 
@@ -144,13 +148,15 @@ pub fn declined(r: Relay, why: Refusal) -> Returned
     }
 }
 
-// The record with counters and latches cleared.
+// The record with counters, latches, overcurrent sums and their trips cleared.
 pub fn cleared(r: Relay) -> Relay
     ensures { λ s. ⌜ s ≡ clearedOf r ⌝ }
 {
     let trip = starting::untripped();
     let mut done = r;
+    let backup = overcurrent::untripped();
     done.trip = trip;
+    done.backup = backup;
     done
 }
 
@@ -186,7 +192,7 @@ impl Relay {
         measured(self, w)
     }
 
-    // Clears counters and latches, and not the window: 12.
+    // Clears counters, latches, overcurrent sums and their trips, and not the window: 12.
     pub fn reset(self) -> Returned
         ensures { λ s. ⌜ Resets self s ⌝ }
     {

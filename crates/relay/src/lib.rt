@@ -6,6 +6,8 @@ pub mod paging;
 pub mod starting;
 
 use measuring::Reading;
+use overcurrent::Backup;
+use overcurrent::Trips;
 use page::Events;
 use refusal::Refusal;
 use refusal::Verdict;
@@ -19,6 +21,7 @@ pub struct Relay {
     pub window: Window,
     pub trip: Trip,
     pub events: Events,
+    pub backup: Backup,
 }
 
 // What a Measured answer says of a system.
@@ -27,10 +30,11 @@ pub struct Measure {
     pub latched: bool,
 }
 
-// The answer to a sample call: the number of sets held while the window fills, the three systems once it is full, or the refusal.
+// The answer to a sample call: the number of sets held while the window fills; once it is full the three systems, and which ends' overcurrent elements have
+// tripped; or the refusal.
 pub enum Answer {
     Filling(u8),
-    Measured(Measure, Measure, Measure),
+    Measured(Measure, Measure, Measure, Trips),
     Refused(Refusal),
 }
 

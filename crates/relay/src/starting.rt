@@ -9,6 +9,7 @@ use crate::Relay;
 use page::Events;
 use refusal::Verdict;
 use setting::End;
+use setting::Overcurrent;
 use setting::Setting;
 use setting::Thresholds;
 use state::Element;
@@ -34,6 +35,10 @@ pub fn blank() -> Setting
         second: 0,
         fifth: 0,
     };
+    let o = Overcurrent {
+        pickup: 0,
+        curve: 0,
+    };
     Setting {
         ends: 0,
         flags: 0,
@@ -44,6 +49,7 @@ pub fn blank() -> Setting
         e2: e,
         e3: e,
         thresholds: t,
+        overcurrent: o,
     }
 }
 
@@ -82,10 +88,12 @@ pub fn fresh(v: Setting) -> Relay
     };
     let trip = untripped();
     let events = Events { flags: 0, mask: 0 };
+    let backup = overcurrent::untripped();
     Relay {
         setting: v,
         window: window,
         trip: trip,
         events: events,
+        backup: backup,
     }
 }

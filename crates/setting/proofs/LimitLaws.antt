@@ -1,12 +1,13 @@
 -- From tests to facts: the limits of a setting whose fields are within their rules, and what is known of values that a block may hold.
-use mathlib.Core.Path.{_≡_, refl, sym, _∙_}
-use mathlib.Core.Bool.{Bool, true, false, cond, true≢false}
+use mathlib.Core.Path.{_≡_, refl, sym, ap, _∙_}
+use mathlib.Core.Bool.{Bool, true, false, not, cond, true≢false}
 use Prim.Native.Nat.{ℕ, zero, suc, _≤_, _<_}
 use native.Mathlib.Omega.{arith}
 use lib.Dec.{T, leb, eqb, leb→le, eqb→eq}
 use lib.ListN.{getD}
 use lib.IntN.{ℤ, pos}
 use lib.Signed.{leZ, leZ-yes, _≤ℤ_}
+use borrow.Author.Tests.{eqb-false}
 use Rattle.integer.specs.Within.{_within_}
 use Rattle.lists.specs.Tests.{each}
 use Rattle.integer.proofs.Reading.{ints}
@@ -16,7 +17,7 @@ use Rattle.setting.specs.declared.End.{End}
 use Rattle.setting.specs.declared.Field.{Field}
 use Rattle.setting.specs.declared.Setting.{Setting}
 use Rattle.setting.specs.Values.{between, right, endOf, fields, allRight, factor, factors, factorHigh, valueRows, storeRows, storable, startable}
-use Rattle.setting.specs.Limits.{Limits}
+use Rattle.setting.specs.Limits.{Limits, TimersOn}
 use Rattle.setting.proofs.FactorLaws.{factor-nonneg}
 
 -- ---- a field within its rule
@@ -75,6 +76,10 @@ module _ (v : Setting) (h : T (allRight (fields v))) where
         group = λ z u. bounded z (omega arith) .group;
       }
 
+  -- a curve that is not 0 puts X in use
+  timers-of : eqb (v .overcurrent .curve) 0 ≡ false → TimersOn (v .overcurrent)
+  timers-of e = record { some = omega (arith, eqb-false (v .overcurrent .curve) 0 e); two = field-at 27 .most; pickup = field-at 26 .least (ap not e) }
+
 -- ---- values that a block may hold
 
 pub record Storable (v : Setting) : Type 0 where
@@ -89,6 +94,8 @@ pub record Storable (v : Setting) : Type 0 where
   pub knee : Ranged 1500 10000 (v .thresholds .knee)
   pub second : Ranged 10 50 (v .thresholds .second)
   pub fifth : Ranged 10 80 (v .thresholds .fifth)
+  pub pickup : v .overcurrent .pickup ≤ 4000
+  pub timers : eqb (v .overcurrent .curve) 0 ≡ false → TimersOn (v .overcurrent)
   pub factor-within : (z : ℕ) → z < v .ends → factor v z within 1048576
 
 small : (x : ℤ) → pos 0 ≤ℤ x → x ≤ℤ pos 1048576 → x within 1048576
@@ -113,6 +120,8 @@ storable-is v h =
       knee = ranged (field-at v f 23);
       second = ranged (field-at v f 24);
       fifth = ranged (field-at v f 25);
+      pickup = field-at v f 26 .most;
+      timers = timers-of v f;
       factor-within = λ z u. small (factor v z) (factor-nonneg v z (power-ranged v f .least)) (leZ-yes (low z u));
     }
 
@@ -122,3 +131,7 @@ startable-storable v h = h
 
 pub startable-is : (v : Setting) → T (startable v) → Storable v
 startable-is v h = storable-is v (startable-storable v h)
+
+-- inverse-time elements that are on
+pub timers-on : (v : Setting) → T (startable v) → eqb (v .overcurrent .curve) 0 ≡ false → TimersOn (v .overcurrent)
+timers-on v h = startable-is v h .timers

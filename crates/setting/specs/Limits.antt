@@ -6,6 +6,7 @@ use lib.Dec.{ltb}
 use lib.IntN.{ℤ, pos}
 use Rattle.lists.specs.Lists.{upTo}
 use Rattle.setting.specs.declared.End.{End}
+use Rattle.setting.specs.declared.Overcurrent.{Overcurrent}
 use Rattle.setting.specs.declared.Setting.{Setting}
 use Rattle.setting.specs.Values.{endOf, factor}
 
@@ -22,6 +23,12 @@ pub record Limits (v : Setting) : Type 0 where
   pub four : v .ends ≤ 4
   pub rated : (z : ℕ) → z < v .ends → Rated (endOf v z) (v .power)
   pub group : (z : ℕ) → z < v .ends → endOf v z .group < 12
+
+-- inverse-time elements that are on: a curve of the two, and a pick-up of 200 or more (02, card 6)
+pub record TimersOn (o : Overcurrent) : Type 0 where
+  pub some : 1 ≤ o .curve
+  pub two : o .curve ≤ 2
+  pub pickup : 200 ≤ o .pickup
 
 -- K of each of the four ends, 0 at an end that is not in use
 abbrev pub factorOr0 : Setting → ℕ → ℤ

@@ -1,4 +1,4 @@
--- Setting values and their rules (document 01, "The setting block" and the limits of "Matching"; document 02, card 3).
+-- Setting values and their rules (document 01, "The setting block" and the limits of "Matching"; document 02, cards 3 and 6).
 use mathlib.Core.Bool.{Bool, true, not, _&&_, cond}
 use mathlib.Core.List.{List, [], _∷_, _++_}
 use mathlib.Core.Option.{Option, none, some}
@@ -13,6 +13,7 @@ use Rattle.lists.specs.Tests.{each}
 use Rattle.refusal.specs.Refusals.{Row, _when_, _at_when_, noneApplies}
 use Rattle.setting.specs.declared.End.{End}
 use Rattle.setting.specs.declared.Field.{Field}
+use Rattle.setting.specs.declared.Overcurrent.{Overcurrent}
 use Rattle.setting.specs.declared.Setting.{Setting}
 use Rattle.setting.specs.declared.Thresholds.{Thresholds}
 
@@ -70,8 +71,14 @@ tailFields t =
     ∷ (72, true, 10, 80, t .fifth)
     ∷ []
 
+-- 74: X, 200 to 4,000, at curve 0 zero; 76: the curve, 0 to 2 (02, card 6)
+abbrev pub curveFields : Overcurrent → List Field
+curveFields o = (74, not (eqb (o .curve) 0), 200, 4000, o .pickup) ∷ (76, true, 0, 2, o .curve) ∷ []
+
 abbrev pub fields : Setting → List Field
-fields v = headFields v ++ (endFields v 0 ++ (endFields v 1 ++ (endFields v 2 ++ (endFields v 3 ++ tailFields (v .thresholds)))))
+fields v =
+    headFields v
+    ++ (endFields v 0 ++ (endFields v 1 ++ (endFields v 2 ++ (endFields v 3 ++ (tailFields (v .thresholds) ++ curveFields (v .overcurrent))))))
 
 abbrev pub allRight : List Field → Bool
 allRight fs = each right fs

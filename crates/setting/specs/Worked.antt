@@ -1,6 +1,7 @@
 -- Settings that the documents work with, each where more than one crate uses it.
 use Prim.Native.Nat.{ℕ}
 use Rattle.setting.specs.declared.End.{End}
+use Rattle.setting.specs.declared.Overcurrent.{Overcurrent}
 use Rattle.setting.specs.declared.Setting.{Setting}
 
 -- an end of group 0 with no filter, by V and I (01, "Numbers to meet")
@@ -10,6 +11,10 @@ rated v i = record { voltage = v; current = i; group = 0; filter = 0 }
 -- an end that is not in use (01, "The setting block": ends from E on are all zero)
 abbrev pub unused : End
 unused = rated 0 0
+
+-- no inverse-time elements (02, card 6: curve 0)
+abbrev pub off : Overcurrent
+off = record { pickup = 0; curve = 0 }
 
 -- values that are all zero, of which no relay can be started: a start that is refused leaves them (01, "What the relay declines": no relay)
 abbrev pub blank : Setting
@@ -24,6 +29,7 @@ blank =
       e2 = unused;
       e3 = unused;
       thresholds = record { basic = 0; high = 0; slope1 = 0; slope2 = 0; knee = 0; second = 0; fifth = 0 };
+      overcurrent = off;
     }
 
 -- two ends, by S, with no blocking, M 1, P 200, H 8,000, m1 30, m2 70, Q 4,000 (01, "Numbers to meet" and its bench run); the percents of the
@@ -40,6 +46,7 @@ twoEnds s a b =
       e2 = unused;
       e3 = unused;
       thresholds = record { basic = 200; high = 8000; slope1 = 30; slope2 = 70; knee = 4000; second = 15; fifth = 30 };
+      overcurrent = off;
     }
 
 -- with K 65,536 at both ends: the setting of 01's windows, starts and bench run
@@ -59,6 +66,7 @@ flagged f =
       e2 = plain .e2;
       e3 = plain .e3;
       thresholds = plain .thresholds;
+      overcurrent = plain .overcurrent;
     }
 
 -- the factory setting (02, card 14): S 40 MVA; 110 kV and 300 A, group 0, filter on; 20 kV and 1,200 A, group 5, filter off
@@ -74,4 +82,5 @@ factory =
       e2 = unused;
       e3 = unused;
       thresholds = record { basic = 200; high = 8000; slope1 = 30; slope2 = 70; knee = 4000; second = 20; fifth = 35 };
+      overcurrent = off;
     }

@@ -27,6 +27,7 @@ pub struct Setting {
     pub e2: End,
     pub e3: End,
     pub thresholds: Thresholds,
+    pub overcurrent: Overcurrent,
 }
 
 // The thresholds: P, H and Q in thousandths of reference current; m1 and m2 in percent; the percents of second and fifth harmonic that block.
@@ -38,6 +39,12 @@ pub struct Thresholds {
     pub knee: u16,
     pub second: u16,
     pub fifth: u16,
+}
+
+// The inverse-time elements: the pick-up X in thousandths of reference current; the curve, 0 off, 1 very inverse, 2 extremely inverse.
+pub struct Overcurrent {
+    pub pickup: u16,
+    pub curve: u8,
 }
 
 // A field of the block: the offset of its first byte, whether it is in use, the least and the most that it may then be, and its value. A field that is

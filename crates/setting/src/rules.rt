@@ -37,7 +37,7 @@ pub fn end_of(v: Setting, z: u8) -> End
 }
 
 // The fields of setting values in block order; u0 to u3 say which ends are in use.
-fn fields(v: Setting) -> [Field; 26]
+fn fields(v: Setting) -> [Field; 28]
     ensures { λ r. ⌜ r ≡ fieldsOf v ⌝ }
 {
     let u0 = 0 < v.ends;
@@ -49,6 +49,7 @@ fn fields(v: Setting) -> [Field; 26]
     let c = v.e2;
     let d = v.e3;
     let t = v.thresholds;
+    let o = v.overcurrent;
     [
         Field(5, true, 0, 7, v.flags as u32),
         Field(6, true, 1, 24, v.confirm as u32),
@@ -76,6 +77,8 @@ fn fields(v: Setting) -> [Field; 26]
         Field(68, true, 1500, 10000, t.knee as u32),
         Field(70, true, 10, 50, t.second as u32),
         Field(72, true, 10, 80, t.fifth as u32),
+        Field(74, o.curve != 0, 200, 4000, o.pickup as u32),
+        Field(76, true, 0, 2, o.curve as u32),
     ]
 }
 
@@ -96,7 +99,7 @@ pub fn fault(v: Setting) -> Fault
 {
     let fs = fields(v);
     let mut k: usize = 0;
-    while k < 26 {
+    while k < 28 {
         let f = fs[k];
         if !right(f) {
             return Fault::At(f.0);

@@ -63,6 +63,10 @@ mark-is s h z =
     record { is = rw (first, second, eqb→eq (getD s 2 0) 0x50 (r .0), eqb→eq (getD s 3 0) 0x31 (r .1), z) }
 
 module _ (s : List ℕ) (byte : (k : ℕ) → getD s k 0 < 256) where
+  one-is : (at : ℕ) → Part s at 1 (getD s at 0 ∷ [])
+  unfolding upTo
+  one-is at = record { is = rw (add-zero at) }
+
   two-is : (at : ℕ) → Part s at 2 (bytes16 (u16At s at))
   unfolding upTo
   two-is at = record { is = bytes-u16 s at (byte at) (byte (at + 1)) ∙ rw (add-zero at) }
@@ -77,8 +81,8 @@ module _ (s : List ℕ) (byte : (k : ℕ) → getD s k 0 < 256) where
       let last : Part s (at + 8) 4 (getD s (at + 8) 0 ∷ getD s (at + 9) 0 ∷ 0 ∷ 0 ∷ []) = record { is = simp (add-assoc, y, z) } in
       four-is at beside four-is (at + 4) beside last
 
-  -- bytes 0 to 73
-  header-is : T (marked s) → Each (Zero s) spareOffsets → Part s 0 74 (header (settingAt s))
+  -- bytes 0 to 76
+  header-is : T (marked s) → Each (Zero s) spareOffsets → Part s 0 77 (header (settingAt s))
   unfolding header settingAt
   header-is m (z7 & z22 & z23 & z34 & z35 & z46 & z47 & z58 & z59 & rest) =
       mark-is s m z7
@@ -94,17 +98,19 @@ module _ (s : List ℕ) (byte : (k : ℕ) → getD s k 0 < 256) where
       beside two-is 68
       beside two-is 70
       beside two-is 72
+      beside two-is 74
+      beside one-is 76
 
-  -- bytes 74 to 509
-  tail-zero : Each (Zero s) spareOffsets → (k : ℕ) → k < 436 → Zero s (74 + k)
-  tail-zero (z7 & rest) k h = rw (getD-upTo 436 (λ k. 74 + k) k 7 h) at (each-get (each-drop rest 8) {d = 7} z7 k)
+  -- bytes 77 to 509
+  tail-zero : Each (Zero s) spareOffsets → (k : ℕ) → k < 433 → Zero s (77 + k)
+  tail-zero (z7 & rest) k h = rw (getD-upTo 433 (λ k. 77 + k) k 7 h) at (each-get (each-drop rest 8) {d = 7} z7 k)
 
-  tail-is : Each (Zero s) spareOffsets → Part s 74 436 (replicate 436 0)
-  tail-is z = record { is = sym (upTo-same 436 _ _ (tail-zero z) ∙ upTo-equal 436 0) }
+  tail-is : Each (Zero s) spareOffsets → Part s 77 433 (replicate 433 0)
+  tail-is z = record { is = sym (upTo-same 433 _ _ (tail-zero z) ∙ upTo-equal 433 0) }
 
-  pub body-is : 510 ≤ length s → T (marked s) → Each (Zero s) spareOffsets → header (settingAt s) ++ replicate 436 0 ≡ take 510 s
+  pub body-is : 510 ≤ length s → T (marked s) → Each (Zero s) spareOffsets → header (settingAt s) ++ replicate 433 0 ≡ take 510 s
   body-is l m z =
-      let all : Part s 0 510 (header (settingAt s) ++ replicate 436 0) = header-is m z beside tail-is z in
+      let all : Part s 0 510 (header (settingAt s) ++ replicate 433 0) = header-is m z beside tail-is z in
       all .is ∙ simp zero-add (sym (take-upTo 510 s 0 l))
 
 -- ---- from values to bytes and back
@@ -113,7 +119,7 @@ module _ (s : List ℕ) (byte : (k : ℕ) → getD s k 0 < 256) where
 end-back : (e : End) → Bounded e → endAt (endBytes e) 0 ≡ e
 end-back e b = rw (u32-bytes (e .voltage) [] (omega (arith, b .voltage)), u32-bytes (e .current) [] (omega (arith, b .current)))
 
-pub header-length : (v : Setting) → length (header v) ≡ 74
+pub header-length : (v : Setting) → length (header v) ≡ 77
 unfolding header
 header-length v = refl
 
@@ -146,15 +152,17 @@ module _ (v : Setting) (rest : List ℕ) where
               second = u16-bytes (v .thresholds .second) [] (omega (arith, h .second .most)) i;
               fifth = u16-bytes (v .thresholds .fifth) [] (omega (arith, h .fifth .most)) i;
             };
+        overcurrent =
+            record { pickup = u16-bytes (v .overcurrent .pickup) [] (omega (arith, h .pickup)) i; curve = v .overcurrent .curve };
       }
 
   -- and with zeros between
-  after-zero : (k : ℕ) → k < 436 → Zero (header v ++ (replicate 436 0 ++ rest)) (74 + k)
+  after-zero : (k : ℕ) → k < 433 → Zero (header v ++ (replicate 433 0 ++ rest)) (77 + k)
   after-zero k h =
-      let zs : List ℕ = replicate 436 0 in
-      let e : getD (header v ++ (zs ++ rest)) (74 + k) 0 ≡ getD (zs ++ rest) k 0 = rw (header-length v) at (getD-append-add (header v) (zs ++ rest) k 0) in
-      e ∙ List·getD-append zs rest 0 k (rw length-replicate h) ∙ getD-replicate 436 k 0 0 h
+      let zs : List ℕ = replicate 433 0 in
+      let e : getD (header v ++ (zs ++ rest)) (77 + k) 0 ≡ getD (zs ++ rest) k 0 = rw (header-length v) at (getD-append-add (header v) (zs ++ rest) k 0) in
+      e ∙ List·getD-append zs rest 0 k (rw length-replicate h) ∙ getD-replicate 433 k 0 0 h
 
-  pub header-zero : Each (Zero (header v ++ (replicate 436 0 ++ rest))) spareOffsets
+  pub header-zero : Each (Zero (header v ++ (replicate 433 0 ++ rest))) spareOffsets
   unfolding header
-  header-zero = refl & refl & refl & refl & refl & refl & refl & refl & refl & upTo-each 436 (λ k. 74 + k) after-zero
+  header-zero = refl & refl & refl & refl & refl & refl & refl & refl & refl & upTo-each 433 (λ k. 77 + k) after-zero

@@ -79,10 +79,10 @@ read-write s v bytes e buffer l =
 
 module _ (v : Setting) where
   abbrev body : List ℕ
-  body = header v ++ replicate 436 0
+  body = header v ++ replicate 433 0
 
   body-length : length body ≡ 510
-  body-length = rw (length-append (header v) (replicate 436 0), header-length v)
+  body-length = rw (length-append (header v) (replicate 433 0), header-length v)
 
   sums : List ℕ
   sums = sumsOf body .a ∷ sumsOf body .b ∷ []
@@ -91,12 +91,12 @@ module _ (v : Setting) where
   unfolding blockOf
   block-length = rw (length-append body, body-length)
 
-  block-parts : blockOf v ≡ header v ++ (replicate 436 0 ++ sums)
+  block-parts : blockOf v ≡ header v ++ (replicate 433 0 ++ sums)
   unfolding blockOf sums
-  block-parts = append-assoc (header v) (replicate 436 0) sums
+  block-parts = append-assoc (header v) (replicate 433 0) sums
 
   values-back : T (storable v) → settingAt (blockOf v) ≡ v
-  values-back h = rw block-parts (setting-back v (replicate 436 0 ++ sums) (storable-is v h))
+  values-back h = rw block-parts (setting-back v (replicate 433 0 ++ sums) (storable-is v h))
 
   block-checked : checked (blockOf v) ≡ true
   unfolding blockOf
@@ -105,7 +105,7 @@ module _ (v : Setting) where
   block-tests : T (storable v) → T (hold (tests (blockOf v)))
   block-tests h =
       let l : eqb (length (blockOf v)) 512 ≡ true = eq-eqb (length (blockOf v)) 512 block-length in
-      let m : marked (blockOf v) ≡ true = rw block-parts (header-marked v (replicate 436 0 ++ sums)) in
+      let m : marked (blockOf v) ≡ true = rw block-parts (header-marked v (replicate 433 0 ++ sums)) in
       let z : allRight (spares (blockOf v)) ≡ true = is-true (zero-spares (blockOf v) (rw block-parts (header-zero v sums))) in
       let ok : storable v ≡ true = is-true h in
       rw (l, block-checked, m, values-back h, ok, z) tt

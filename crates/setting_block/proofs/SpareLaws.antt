@@ -18,10 +18,10 @@ use Rattle.setting.specs.Values.{lowest}
 use Rattle.setting.proofs.FieldLaws.{firstWrong, search-turn, search-done, first-lowest}
 use Rattle.setting_block.specs.Layout.{fewSpares, spareOffsets, spare, spares}
 
--- ---- the place k: one of the few, or 65 + k
+-- ---- the place k: one of the few, or 68 + k
 
 abbrev run : List ℕ
-run = upTo 436 (λ i. 74 + i)
+run = upTo 433 (λ i. 77 + i)
 
 module _ {few : List ℕ} (e : few ≡ fewSpares) where
   pub few-at : (k : ℕ) → k < 9 → getD spareOffsets k 0 ≡ getD few k 0
@@ -30,11 +30,11 @@ module _ {few : List ℕ} (e : few ≡ fewSpares) where
   pub few-in : (k : ℕ) → getD few k 0 < 512
   few-in k = rw e (each-get (test-each (λ x. ltb x 512) (λ x. ltb→lt x 512) fewSpares tt) {d = 0} (omega arith) k)
 
-pub run-at : (k : ℕ) → 9 ≤ k → k < 445 → getD spareOffsets k 0 ≡ 65 + k
+pub run-at : (k : ℕ) → 9 ≤ k → k < 442 → getD spareOffsets k 0 ≡ 68 + k
 run-at k l h =
     let e : 9 + (k - 9) ≡ k = omega arith in
-    let f : 74 + (k - 9) ≡ 65 + k = omega arith in
-    rw (e, f) at (getD-append-add fewSpares run (k - 9) 0 ∙ getD-upTo 436 (λ i. 74 + i) (k - 9) 0 (omega arith))
+    let f : 77 + (k - 9) ≡ 68 + k = omega arith in
+    rw (e, f) at (getD-append-add fewSpares run (k - 9) 0 ∙ getD-upTo 433 (λ i. 77 + i) (k - 9) 0 (omega arith))
 
 -- ---- the offsets rise
 
@@ -45,21 +45,21 @@ spares-lowest s = first-lowest 0 (spares s) tt
 -- ---- one turn
 
 module _ (s : List ℕ) (k : ℕ) (inv : firstWrong (drop k (spares s)) ≡ firstWrong (spares s)) where
-  count : length (spares s) ≡ 445
+  count : length (spares s) ≡ 442
   unfolding spares upTo
   count = length-map spareOffsets (spare s)
 
   pub spare-turn :
-      {at : ℕ} → getD spareOffsets k 0 ≡ at → k < 445 →
+      {at : ℕ} → getD spareOffsets k 0 ≡ at → k < 442 →
       firstWrong (spares s) ≡ cond (eqb (getD s at 0) 0) (firstWrong (drop (k + 1) (spares s))) (some at)
   unfolding spares
   spare-turn {at} e h =
       search-turn (spares s) k inv (spare s 0) {f = spare s at} (List·getD-map (spare s) spareOffsets k 0 ∙ ap (spare s) e) (omega (arith, count))
 
-  pub spare-done : 445 ≤ k → none ≡ firstWrong (spares s)
+  pub spare-done : 442 ≤ k → none ≡ firstWrong (spares s)
   spare-done h = search-done (spares s) k inv (omega (arith, count))
 
--- ---- the run from 74 on, where all of it is zero
+-- ---- the run from 77 on, where all of it is zero
 
 run-search : (s : List ℕ) (n at : ℕ) → at + n ≤ length s → T (each (λ x. eqb x 0) (take n (drop at s))) →
     firstWrong (map (spare s) (upTo n (λ i. at + i))) ≡ none
@@ -70,6 +70,6 @@ run-search s (suc n) at l z =
     let zero-at : eqb (getD s at 0) 0 ≡ true = is-true (h .0) in
     rw (add-zero at, zero-at, upTo-same n (λ i. at + suc i) (λ i. (at + 1) + i) (λ i j. omega arith)) (run-search s n (at + 1) (omega arith) (h .1))
 
-pub run-zero : (s : List ℕ) → length s ≡ 512 → zeros (take 436 (drop 74 s)) ≡ true → firstWrong (drop 9 (spares s)) ≡ none
+pub run-zero : (s : List ℕ) → length s ≡ 512 → zeros (take 433 (drop 77 s)) ≡ true → firstWrong (drop 9 (spares s)) ≡ none
 unfolding spares zeros
-run-zero s l z = run-search s 436 74 (omega arith) (rw z tt)
+run-zero s l z = run-search s 433 77 (omega arith) (rw z tt)

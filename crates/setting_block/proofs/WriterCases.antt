@@ -32,10 +32,10 @@ _then_ {b} {p} {q} {at = at} k l =
     let joined : start ++ q ≡ take at b ++ (p ++ q) = append-assoc (take at b) p q in
     record { place = k .place; bytes = l .bytes ∙ rw (k .bytes, take-at start (drop n b) n s, past, e, joined) }
 
--- a block of zeros with the header put at its start: of the 510 bytes that are sealed, 436 are the zeros after the header
+-- a block of zeros with the header put at its start: of the 510 bytes that are sealed, 433 are the zeros after the header
 pub header-sealed : (v : Setting) {b : List ℕ} → Laid (replicate 512 0) 0 (header v) b → sealed (take 510 b) ≡ blockOf v
 unfolding header blockOf
-header-sealed v l = ap (λ (z : List ℕ). sealed (take 510 z)) (l .bytes) ∙ ap sealed (take-append-add (header v) (drop 74 (replicate 512 0)) 436)
+header-sealed v l = ap (λ (z : List ℕ). sealed (take 510 z)) (l .bytes) ∙ ap sealed (take-append-add (header v) (drop 77 (replicate 512 0)) 433)
 
 module _ (v : Setting) (buffer : List ℕ) where
   -- the last row of the writer's

@@ -1,4 +1,4 @@
--- The setting block's 512 bytes (document 01, "The setting block").
+-- The setting block's 512 bytes (document 01, "The setting block"; document 02, card 6).
 use mathlib.Core.Path.{_≡_}
 use mathlib.Core.Bool.{Bool, false, _&&_}
 use mathlib.Core.List.{List, [], _∷_, _++_, map}
@@ -39,13 +39,14 @@ settingAt s =
             second = u16At s 70;
             fifth = u16At s 72;
           };
+      overcurrent = record { pickup = u16At s 74; curve = getD s 76 0 };
     }
 
 -- 0 to 3: the mark
 abbrev pub marked : List ℕ → Bool
 marked s = eqb (getD s 0 0) 0x54 && (eqb (getD s 1 0) 0x44 && (eqb (getD s 2 0) 0x50 && eqb (getD s 3 0) 0x31))
 
--- the zero bytes: 7; the last two of each end; 74 to 509
+-- the zero bytes: 7; the last two of each end; 77 to 509
 abbrev pub endSpares : ℕ → List ℕ
 endSpares z = (22 + 12 * z) ∷ (23 + 12 * z) ∷ []
 
@@ -53,7 +54,7 @@ abbrev pub fewSpares : List ℕ
 fewSpares = 7 ∷ (endSpares 0 ++ (endSpares 1 ++ (endSpares 2 ++ endSpares 3)))
 
 abbrev pub spareOffsets : List ℕ
-spareOffsets = fewSpares ++ upTo 436 (λ k. 74 + k)
+spareOffsets = fewSpares ++ upTo 433 (λ k. 77 + k)
 
 -- each zero byte is a field by itself (02, card 3), which is never in use
 abbrev pub spare : List ℕ → ℕ → Field
@@ -72,7 +73,7 @@ pub record Laid (before : List ℕ) (at : ℕ) (piece after : List ℕ) : Type 0
 abbrev pub endBytes : End → List ℕ
 endBytes e = bytes32 (e .voltage) ++ bytes32 (e .current) ++ (e .group ∷ e .filter ∷ 0 ∷ 0 ∷ [])
 
--- bytes 0 to 73
+-- bytes 0 to 76
 unfoldable pub header : Setting → List ℕ
 header v =
     (0x54 ∷ 0x44 ∷ 0x50 ∷ 0x31 ∷ v .ends ∷ v .flags ∷ v .confirm ∷ 0 ∷ [])
@@ -88,7 +89,9 @@ header v =
     ++ bytes16 (v .thresholds .knee)
     ++ bytes16 (v .thresholds .second)
     ++ bytes16 (v .thresholds .fifth)
+    ++ bytes16 (v .overcurrent .pickup)
+    ++ (v .overcurrent .curve ∷ [])
 
--- 74 to 509 zero, then the check
+-- 77 to 509 zero, then the check
 unfoldable pub blockOf : Setting → List ℕ
-blockOf v = sealed (header v ++ replicate 436 0)
+blockOf v = sealed (header v ++ replicate 433 0)

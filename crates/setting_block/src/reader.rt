@@ -12,6 +12,7 @@ use refusal::Refusal;
 use refusal::Verdict;
 use setting::End;
 use setting::Fault;
+use setting::Overcurrent;
 use setting::Setting;
 use setting::Thresholds;
 use setting::judging;
@@ -61,6 +62,10 @@ fn setting_at(s: &[u8]) -> Setting
         second: block::u16_at(s, 70),
         fifth: block::u16_at(s, 72),
     };
+    let o = Overcurrent {
+        pickup: block::u16_at(s, 74),
+        curve: s[76],
+    };
     Setting {
         ends: s[4],
         flags: s[5],
@@ -71,17 +76,18 @@ fn setting_at(s: &[u8]) -> Setting
         e2: e2,
         e3: e3,
         thresholds: t,
+        overcurrent: o,
     }
 }
 
-// The zero bytes before 74.
+// The zero bytes before 77.
 fn few_spares() -> [u16; 9]
     ensures { λ r. ⌜ r ≡ fewSpares ⌝ }
 {
     [7, 22, 23, 34, 35, 46, 47, 58, 59]
 }
 
-// The first byte that must be zero and is not: one of the few, or from 74 on, where most blocks have nothing but zeros.
+// The first byte that must be zero and is not: one of the few, or from 77 on, where most blocks have nothing but zeros.
 fn spare_fault(s: &[u8]) -> Fault
     requires { ⌜ length (now s) ≡ 512 ⌝ }
     ensures { λ r. ⌜ found r ≡ lowest (spares (now (s .entry))) ⌝ }
@@ -95,11 +101,11 @@ fn spare_fault(s: &[u8]) -> Fault
         }
         k += 1;
     }
-    if block::zeros(&s[74..510]) {
+    if block::zeros(&s[77..510]) {
         return Fault::Nowhere;
     }
-    while k < 445 {
-        let at = 65 + k;
+    while k < 442 {
+        let at = 68 + k;
         if s[at] != 0 {
             return Fault::At(at as u16);
         }

@@ -71,6 +71,9 @@ fn block_of(v: Setting) -> [u8; 512]
     let b = put_16(b, 68, t.knee);
     let b = put_16(b, 70, t.second);
     let b = put_16(b, 72, t.fifth);
+    let o = v.overcurrent;
+    let b = put_16(b, 74, o.pickup);
+    let b = put(b, 76, &[o.curve]);
     block::seal(b)
 }
 

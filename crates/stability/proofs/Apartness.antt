@@ -9,7 +9,7 @@ use Rattle.refusal.specs.Refusals.{Outcome, gives, declines, byOutcome}
 use Rattle.page.specs.declared.Events.{Events}
 use Rattle.relay.specs.declared.Relay.{Relay}
 use Rattle.relay.specs.Record.{admissible, withEvents}
-use Rattle.relay.specs.Calls.{Reply, windowAfter, replyNow, relayNow, refusedRelay, ofSet, leftAt, sampleReply, sampleRelay}
+use Rattle.relay.specs.Calls.{Reply, windowAfter, backupNow, replyNow, relayNow, refusedRelay, ofSet, leftAt, sampleReply, sampleRelay}
 use Rattle.relay.specs.Calls.{resetRows, cleared, resetReply, resetRelay}
 use Rattle.relay.specs.Page.{writeRows, resets, writeReply, writeRelay}
 use Rattle.relay.specs.Lists.{Call, sample, reset, read, write, after, run}
@@ -21,22 +21,22 @@ use Rattle.stability.specs.Apart.{stays, struck, sampled, done, told, an
 
 module _ (r : Relay) (e : Events) (p : admissible r ≡ true) (q : admissible (withEvents r e) ≡ true) where
   sample-same : (xs : List ℤ) → sampleReply r xs ≡ sampleReply (withEvents r e) xs
-  unfolding replyNow
+  unfolding replyNow backupNow
   sample-same xs = sample-reply (r .setting) r xs p refl ∙ sym (sample-reply (r .setting) (withEvents r e) xs q refl)
 
   sample-alike : (xs : List ℤ) → Alike (sampleRelay r xs) (sampleRelay (withEvents r e) xs)
-  unfolding relayNow refusedRelay
+  unfolding relayNow backupNow refusedRelay
   sample-alike xs = rw (← (sample-same xs)) (by (sampleReply r xs))
     where
       s : Relay
       s = withEvents r e
 
       refused : (b : Bool) → Alike (cond b (refusedRelay r) r) (cond b (refusedRelay s) s)
-      refused true = record { setting = refl; window = refl; trip = refl }
-      refused false = record { setting = refl; window = refl; trip = refl }
+      refused true = record { setting = refl; window = refl; trip = refl; backup = refl }
+      refused false = record { setting = refl; window = refl; trip = refl; backup = refl }
 
       by : (o : Outcome Reply) → Alike (byOutcome o (leftAt r) (λ a. relayNow r (windowAfter r xs))) (byOutcome o (leftAt s) (λ a. relayNow s (windowAfter r xs)))
-      by (gives a) = record { setting = refl; window = refl; trip = refl }
+      by (gives a) = record { setting = refl; window = refl; trip = refl; backup = refl }
       by (declines told) = refused (ofSet told)
 
   reset-same : resetReply r ≡ resetReply (withEvents r e)
@@ -45,7 +45,7 @@ module _ (r : Relay) (e : Events) (p : admissible r ≡ true) (q : admissible (w
 
   reset-alike : Alike (resetRelay r) (resetRelay (withEvents r e))
   unfolding cleared
-  reset-alike = rw (reset-leaves r p, reset-leaves (withEvents r e) q) (record { setting = refl; window = refl; trip = refl })
+  reset-alike = rw (reset-leaves r p, reset-leaves (withEvents r e) q) (record { setting = refl; window = refl; trip = refl; backup = refl })
 
   write-same : (o : ℕ) → writeReply r o ≡ writeReply (withEvents r e) o
   unfolding writeRows
@@ -54,7 +54,7 @@ module _ (r : Relay) (e : Events) (p : admissible r ≡ true) (q : admissible (w
   -- a write that resets
   write-alike : (o x : ℕ) → resets o x ≡ true → Alike (writeRelay r o x) (writeRelay (withEvents r e) o x)
   unfolding cleared
-  write-alike o x h = rw (write-resets r p o x h, write-resets (withEvents r e) q o x h) (record { setting = refl; window = refl; trip = refl })
+  write-alike o x h = rw (write-resets r p o x h, write-resets (withEvents r e) q o x h) (record { setting = refl; window = refl; trip = refl; backup = refl })
 
   told-same : (c : Call) → stays c ≡ true → told r c ≡ told (withEvents r e) c
   told-same (sample xs) h = ap sampled (sample-same xs)
@@ -73,7 +73,7 @@ struck-alike : (r s : Relay) → admissible r ≡ true → Alike r s → (c : Ca
 struck-alike r s p a (sample xs) h = absurd (true≢false h)
 struck-alike r s p a reset h = absurd (true≢false h)
 struck-alike r s p a (read o) h = a
-struck-alike r s p a (write o x) h = rw (write-leaves r p o x h) (record { setting = a .setting; window = a .window; trip = a .trip })
+struck-alike r s p a (write o x) h = rw (write-leaves r p o x h) (record { setting = a .setting; window = a .window; trip = a .trip; backup = a .backup })
 
 -- ---- the list
 
@@ -82,7 +82,7 @@ after-admissible r p c = valid-after {v = r .setting} (record { ok = p; same = r
 
 -- records alike are a record and one with other events
 alike-is : {r s : Relay} → Alike r s → withEvents r (s .events) ≡ s
-alike-is {r} {s} a = λ i. record { setting = a .setting i; window = a .window i; trip = a .trip i; events = s .events }
+alike-is {r} {s} a = λ i. record { setting = a .setting i; window = a .window i; trip = a .trip i; events = s .events; backup = a .backup i }
 
 abbrev Apart : List Call → Type 0
 Apart cs =
@@ -114,4 +114,4 @@ apart-from (c ∷ cs) = by (stays c) refl (apart-from cs)
 
 pub page-apart : PageApart
 unfolding PageApart
-page-apart r p cs = apart-from cs r r p p (record { setting = refl; window = refl; trip = refl })
+page-apart r p cs = apart-from cs r r p p (record { setting = refl; window = refl; trip = refl; backup = refl })

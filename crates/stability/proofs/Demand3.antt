@@ -34,6 +34,7 @@ use Rattle.characteristic.proofs.Bound.{quiet-bound}
 use Rattle.measuring.specs.Window.{sums}
 use Rattle.measuring.specs.Measuring.{differential, start, blocked, readingOf, readingsOf}
 use Rattle.state.specs.declared.Window.{Window}
+use Rattle.overcurrent.specs.Timers.{tripsOf}
 use Rattle.state.specs.State.{elementOf, perSystem, clear, latchesOf, full}
 use Rattle.bits.specs.declared.Bits.{Bits}
 use Rattle.bits.specs.Bits.{bitsOf}
@@ -42,7 +43,7 @@ use Rattle.page.specs.Page.{startsOf, nothing}
 use Rattle.page.proofs.EventLaws.{no-bit, raised-none, raised-flags, written-lower}
 use Rattle.state.proofs.Elements.{per-system, no-latch-after}
 use Rattle.relay.specs.Calls.{accepted, counting, elementNow, tripNow, measureNow, replyNow, startsBy, flagsNow, eventsNow, relayNow, refusedRelay}
-use Rattle.relay.specs.Calls.{cleared, filling, measured}
+use Rattle.relay.specs.Calls.{backupNow, cleared, filling, measured}
 use Rattle.relay.specs.Page.{beyond, fixed}
 use Rattle.matching.proofs.Total.{total-bound}
 use Rattle.relay.proofs.Ready.{reach}
@@ -180,7 +181,7 @@ module _ (v : Setting) (s : T (startable v)) where
           m : System → Measure
           m = measureNow r (held ws)
 
-          by : (b : Bool) → full (held ws) ≡ b → CalmReply v (cond b (measured (m sysA) (m sysB) (m sysC)) (filling (held ws .fill)))
+          by : (b : Bool) → full (held ws) ≡ b → CalmReply v (cond b (measured (m sysA) (m sysB) (m sysC) (tripsOf (backupNow r (held ws)))) (filling (held ws .fill)))
           by false e = tt
           by true e = (calm e sysA, calm e sysB, calm e sysC)
 

@@ -2,6 +2,7 @@
 mod Filing
 mod Demand2
 mod TripLaws
+mod TimerLaws
 mod FlagLaws
 mod Apartness
 mod Demand3

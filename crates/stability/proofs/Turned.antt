@@ -24,14 +24,16 @@ use Rattle.amplitude.proofs.Negated.{cycle-negated}
 use Rattle.characteristic.specs.Characteristic.{counts}
 use Rattle.measuring.specs.declared.Reading.{Reading}
 use Rattle.measuring.specs.Measuring.{readingOf, readingsOf}
-use Rattle.measuring.proofs.Negated.{series-negated, sums-negated, difference-negated, reading-same}
+use Rattle.measuring.proofs.Negated.{series-negated, sums-negated, difference-negated, reading-same, largest-same}
+use Rattle.overcurrent.specs.Timers.{backupAfter}
+use Rattle.overcurrent.specs.Watching.{backupBy}
 use Rattle.state.specs.declared.Window.{Window}
 use Rattle.state.specs.State.{numberWithin, afterHeld, atEnd, windowWith, full}
 use Rattle.relay.specs.declared.Relay.{Relay}
 use Rattle.page.specs.Events.{written as writtenEvents}
 use Rattle.page.specs.Page.{shown}
 use Rattle.relay.specs.Record.{fresh, admissible, withEvents}
-use Rattle.relay.specs.Calls.{setRows, sampleRows, windowAfter, counting, measureNow, replyNow, eventsNow, relayNow, refusedRelay, ofSet, leftAt}
+use Rattle.relay.specs.Calls.{setRows, sampleRows, windowAfter, counting, measureNow, backupNow, replyNow, eventsNow, relayNow, refusedRelay, ofSet, leftAt}
 use Rattle.relay.specs.Calls.{sampleReply, sampleRelay}
 use Rattle.relay.specs.Calls.{resetRows, cleared, resetReply, resetRelay}
 use Rattle.relay.specs.Page.{readRows, readReply, writeRows, resets, written, writeReply, writeRelay}
@@ -99,9 +101,13 @@ module _ (r : Relay) (w : Window) where
   measure-same : (l : System) → measureNow (turnedRelay r) (turnedWindow w) l ≡ measureNow r w l
   measure-same l = rw (reading-same (r .setting) (w .values) l, counting-same l)
 
+  backup-same : backupNow (turnedRelay r) (turnedWindow w) ≡ backupNow r w
+  unfolding backupNow backupBy
+  backup-same = let v = r .setting in ap (λ (A : ℕ → ℕ). cond (full w) (backupAfter (v .ends) (v .overcurrent .curve) (v .overcurrent .pickup) A (r .backup)) (r .backup)) (λ i z. largest-same (w .values) z i)
+
   reply-same : replyNow (turnedRelay r) (turnedWindow w) ≡ replyNow r w
   unfolding replyNow
-  reply-same = rw (measure-same sysA, measure-same sysB, measure-same sysC)
+  reply-same = rw (measure-same sysA, measure-same sysB, measure-same sysC, backup-same)
 
   events-same : eventsNow (turnedRelay r) (turnedWindow w) ≡ eventsNow r w
   events-same =
@@ -109,7 +115,7 @@ module _ (r : Relay) (w : Window) where
 
   now-turned : relayNow (turnedRelay r) (turnedWindow w) ≡ turnedRelay (relayNow r w)
   unfolding relayNow
-  now-turned = rw (events-same, counting-same sysA, counting-same sysB, counting-same sysC)
+  now-turned = rw (events-same, counting-same sysA, counting-same sysB, counting-same sysC, backup-same)
 
 -- ---- one call
 

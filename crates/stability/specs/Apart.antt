@@ -43,6 +43,7 @@ pub record Alike (r s : Relay) : Type 0 where
   pub setting : r .setting ≡ s .setting
   pub window : r .window ≡ s .window
   pub trip : r .trip ≡ s .trip
+  pub backup : r .backup ≡ s .backup
 
 -- Take any list of calls from any admissible record, and the same list without reads and without writes that do not reset: the sample calls and resets
 -- that are left have the same answers, and the records after them differ in flags and interrupt mask at most.

@@ -22,9 +22,11 @@ use Rattle.amplitude.specs.Amplitude.{t, weightedSum, cycle, amplitude}
 use Rattle.characteristic.specs.Characteristic.{starts, hasHarmonics, holdsBack}
 use Rattle.measuring.specs.Measuring.{twiceRestraint, harmonics, holding, blocked, readingOf, readingsOf}
 use Rattle.measuring.specs.Unloaded.{ripple}
+use Rattle.overcurrent.specs.Timers.{backupAfter}
+use Rattle.overcurrent.specs.Watching.{backupBy}
 use Rattle.state.specs.State.{elementOf, elementAfter, windowWith}
 use Rattle.relay.specs.Record.{fresh, admissible}
-use Rattle.relay.specs.Calls.{setRows, sampleRows, relayNow}
+use Rattle.relay.specs.Calls.{setRows, sampleRows, backupNow, relayNow}
 use Rattle.relay.specs.Lists.{Call, sample, run}
 use Rattle.stability.specs.Stability.{HealthyCall}
 
@@ -47,7 +49,7 @@ tripped v cs = startable v ∷ latchAfter v cs sysA ∷ latchAfter v cs sysB ∷
 pub fault-trips : tripped plain fault ∷ tripped (flagged 5) beside ∷ [] ≡ (true ∷ true ∷ false ∷ false ∷ []) ∷ (true ∷ true ∷ false ∷ false ∷ []) ∷ []
 unfolding plain flagged fault beside ripple tripped latchAfter factor factorHigh factorsLow valueRows nearestAway nearest floor rootBy sum upTo
     operation operated matched seen matchedAt numbers t weightedSum cycle amplitude twiceRestraint harmonics holding blocked starts hasHarmonics
-    holdsBack elementAfter fresh admissible windowWith setRows sampleRows relayNow eqZ raised bitsOf maskOf readingOf readingsOf
+    holdsBack elementAfter fresh admissible windowWith setRows sampleRows backupAfter backupBy backupNow relayNow eqZ raised bitsOf maskOf readingOf readingsOf
 fault-trips = refl
 
 -- not each of these sets is that of a healthy bank

@@ -1,5 +1,6 @@
 pub mod Lists
 pub mod Trips
+pub mod Timers
 pub mod Flags
 pub mod Apart
 pub mod Stability

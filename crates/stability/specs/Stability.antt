@@ -1,4 +1,5 @@
--- Demand 3 (00; 01, "A healthy bank"; reads and writes by 02, card 2): one claim about the whole list of calls from a fresh relay.
+-- Demand 3 (00; 01, "A healthy bank"; reads and writes by 02, card 2): one claim about the whole list of calls from a fresh relay. It keeps to the
+-- differential element (02, card 6), and holds with X and the curve at any accepted value.
 use mathlib.Core.Path.{_≡_}
 use mathlib.Core.Logic.{_≢_}
 use mathlib.Core.Bool.{false}
@@ -36,7 +37,7 @@ pub record Calm (v : Setting) (m : Measure) : Type 0 where
 
 abbrev pub CalmReply : Setting → Reply → Type 0
 CalmReply v (filling n) = Unit {0}
-CalmReply v (measured a b c) = Calm v a × Calm v b × Calm v c
+CalmReply v (measured a b c trips) = Calm v a × Calm v b × Calm v c
 
 -- refusal 12 does not arise, and what is given has P
 abbrev pub Without12 : {A : Type 0} → (P : A → Type 0) → Outcome A → Type 0

@@ -2,6 +2,7 @@
 
 ghost use Rattle.stability.specs.Lists.{SettingKept, WindowFiled, Answered, ResetAccepted, ReadAnswered, WriteAnswered};
 ghost use Rattle.stability.specs.Trips.{Latched, Counted};
+ghost use Rattle.stability.specs.Timers.{Summed, TimerTripped, NoneTrips};
 ghost use Rattle.stability.specs.Flags.{Noted};
 ghost use Rattle.stability.specs.Apart.{PageApart};
 ghost use Rattle.stability.specs.Stability.{Stability};
@@ -18,6 +19,12 @@ pub fn filed()
 // Latches and counters over the list: they are those of the sets in a row that counted since the last reset.
 pub fn trips()
     ensures { λ _. ⌜ Latched × Counted ⌝ }
+{}
+
+// The overcurrent elements over the list: sums and trips are those of the measured sets in a row since the last reset; and none trips while every A is
+// below 1.1·X.
+pub fn backup()
+    ensures { λ _. ⌜ Summed × TimerTripped × NoneTrips ⌝ }
 {}
 
 // Flags and interrupt mask over the list: they are those of the starts, trips, refused sets and writes in it.

@@ -36,21 +36,29 @@ within-requires : tie.Need-within-requires
 within-requires c κs = search needs
 
 returns-5 : tie.Need-returns-5
-returns-5 c =
-    let else4 = c .before in
+returns-5 c = inadmissible _ 4 (sym (c .before .within .ensures) ∙ not-true _ (c .if5 .taken))
+
+within-requires-2 : tie.Need-within-requires-2
+within-requires-2 c κs = search needs
+
+returns-6 : tie.Need-returns-6
+returns-6 c =
+    let else5 = c .before in
+    let else4 = else5 .before .before in
     let else3 = else4 .before .before in
     let else2 = else3 .before .before .before in
     let else1 = else2 .before .before in
-    c .within .ensures
+    c .within2 .ensures
     ∙ last-admits _
     (is-T (sym (else1 .before .sound .ensures) ∙ not-false _ (else1 .if1 .left))
     & le→leb _ _ (else2 .if2 .left)
     & is-T (sym (else3 .before .numbers-within .ensures) ∙ not-false _ (else3 .if3 .left))
     & is-T (sym (else4 .before .counters-within .ensures) ∙ not-false _ (else4 .if4 .left))
+    & is-T (sym (else5 .before .within .ensures) ∙ not-false _ (else5 .if5 .left))
     & none)
 
 pub admissible-spec : {M : Type 1} → statement M
 admissible-spec =
     tie.close
     (tie.spec sound-requires returns returns-2 slice-aggregate-numbers-within numbers-within-requires returns-3 counters-within-requires returns-4
-    within-requires returns-5)
+    within-requires returns-5 within-requires-2 returns-6)

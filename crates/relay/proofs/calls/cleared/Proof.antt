@@ -7,9 +7,12 @@ use Rattle.relay.proofs.calls.cleared.Tie as tie
 untripped-requires : tie.Need-untripped-requires
 untripped-requires c κs = search needs
 
+untripped-requires-2 : tie.Need-untripped-requires-2
+untripped-requires-2 c κs = search needs
+
 returns : tie.Need-returns
 unfolding cleared
 returns c = cc
 
 pub cleared-spec : {M : Type 1} → statement M
-cleared-spec = tie.close (tie.spec untripped-requires returns)
+cleared-spec = tie.close (tie.spec untripped-requires untripped-requires-2 returns)

@@ -12,10 +12,10 @@ use Rattle.setting.proofs.rules.fault.Statement.{statement}
 use Rattle.setting.proofs.rules.fault.Tie as tie
 
 abbrev Inv-loop : tie.InvT-loop
-Inv-loop fs k₀ k = (k ≤ 26) × (firstWrong (drop k fs) ≡ firstWrong fs)
+Inv-loop fs k₀ k = (k ≤ 28) × (firstWrong (drop k fs) ≡ firstWrong fs)
 
 abbrev μ-loop : tie.MeasureT-loop
-μ-loop fs k₀ k = 26 - k
+μ-loop fs k₀ k = 28 - k
 
 -- the fields' offsets rise
 first-is : (c : tie.After-fields Inv-loop μ-loop) → firstWrong (c .fields .result) ≡ lowest (fields (c .before .args .v))

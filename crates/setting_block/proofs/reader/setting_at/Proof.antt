@@ -38,14 +38,20 @@ u16-at-requires-6 c κs = search needs
 u16-at-requires-7 : tie.Need-u16-at-requires-7
 u16-at-requires-7 c κs = search needs
 
-shared-slice-read-t15 : tie.Need-shared-slice-read-t15
-shared-slice-read-t15 c = search needs
+u16-at-requires-8 : tie.Need-u16-at-requires-8
+u16-at-requires-8 c κs = search needs
 
-shared-slice-read-t17 : tie.Need-shared-slice-read-t17
-shared-slice-read-t17 c = search needs
+shared-slice-read-t16 : tie.Need-shared-slice-read-t16
+shared-slice-read-t16 c = search needs
+
+shared-slice-read-t16-2 : tie.Need-shared-slice-read-t16-2
+shared-slice-read-t16-2 c = search needs
 
 shared-slice-read-t19 : tie.Need-shared-slice-read-t19
 shared-slice-read-t19 c = search needs
+
+shared-slice-read-t21 : tie.Need-shared-slice-read-t21
+shared-slice-read-t21 c = search needs
 
 u32-at-requires : tie.Need-u32-at-requires
 u32-at-requires c κs = search needs
@@ -53,7 +59,8 @@ u32-at-requires c κs = search needs
 returns : tie.Need-returns
 unfolding settingAt
 returns c =
-    let fifth = c .before .before .before .before in
+    let pickup = c .before .before .before .before .before in
+    let fifth = pickup .before in
     let high = fifth .before .before .before .before .before in
     let e3 = high .before .before in
     let s = e3 .before .before .before .before .before .args .s .now in
@@ -77,11 +84,12 @@ returns c =
             second = fifth .before .u16-at6 .ensures i;
             fifth = fifth .u16-at7 .ensures i;
           };
+      overcurrent = record { pickup = pickup .u16-at8 .ensures i; curve = getD s 76 0 };
     }
 
 pub setting-at-spec : {M : Type 1} → statement M
 setting-at-spec =
     tie.close
     (tie.spec end-at-requires end-at-requires-2 end-at-requires-3 end-at-requires-4 u16-at-requires u16-at-requires-2 u16-at-requires-3
-    u16-at-requires-4 u16-at-requires-5 u16-at-requires-6 u16-at-requires-7 shared-slice-read-t15 shared-slice-read-t17 shared-slice-read-t19
-    u32-at-requires returns)
+    u16-at-requires-4 u16-at-requires-5 u16-at-requires-6 u16-at-requires-7 u16-at-requires-8 shared-slice-read-t16 shared-slice-read-t16-2
+    shared-slice-read-t19 shared-slice-read-t21 u32-at-requires returns)

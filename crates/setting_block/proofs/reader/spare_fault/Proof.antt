@@ -19,10 +19,10 @@ abbrev μ-loop : tie.MeasureT-loop
 μ-loop s few k₀ k = 9 - k
 
 abbrev Inv-loop2 : tie.InvT-loop2
-Inv-loop2 s k₀ k = (9 ≤ k) × (k ≤ 445) × (firstWrong (drop k (spares s)) ≡ firstWrong (spares s))
+Inv-loop2 s k₀ k = (9 ≤ k) × (k ≤ 442) × (firstWrong (drop k (spares s)) ≡ firstWrong (spares s))
 
 abbrev μ-loop2 : tie.MeasureT-loop2
-μ-loop2 s k₀ k = 445 - k
+μ-loop2 s k₀ k = 442 - k
 
 few-spares-requires : tie.Need-few-spares-requires Inv-loop μ-loop Inv-loop2 μ-loop2
 few-spares-requires c κs = search needs

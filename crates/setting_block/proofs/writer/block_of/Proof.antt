@@ -48,6 +48,15 @@ put-16-requires-6 c κs = search needs
 put-16-requires-7 : tie.Need-put-16-requires-7
 put-16-requires-7 c κs = search needs
 
+put-16-requires-8 : tie.Need-put-16-requires-8
+put-16-requires-8 c κs = search needs
+
+slice-aggregate-put-2 : tie.Need-slice-aggregate-put-2
+slice-aggregate-put-2 c = search needs
+
+put-requires-2 : tie.Need-put-requires-2
+put-requires-2 c κs = search needs
+
 seal-requires : tie.Need-seal-requires
 seal-requires c κs = search needs
 
@@ -55,7 +64,9 @@ seal-requires c κs = search needs
 returns : tie.Need-returns
 unfolding header
 returns c =
-    let knee = c .before .before .before in
+    let pickup = c .before .before .before in
+    let fifth = pickup .before .before in
+    let knee = fifth .before .before in
     let basic = knee .before .before .before .before in
     let e2 = basic .before .before .before in
     let mark = e2 .before .before .before .before in
@@ -73,11 +84,14 @@ returns c =
     then knee .before .before .put-163 .ensures
     then knee .before .put-164 .ensures
     then knee .put-165 .ensures
-    then c .before .before .put-166 .ensures
-    then c .before .put-167 .ensures)
+    then fifth .before .put-166 .ensures
+    then fifth .put-167 .ensures
+    then pickup .put-168 .ensures
+    then c .before .put2 .ensures)
 
 pub block-of-spec : {M : Type 1} → statement M
 block-of-spec =
     tie.close
     (tie.spec slice-aggregate-put put-requires put-32-requires put-end-requires put-end-requires-2 put-end-requires-3 put-end-requires-4
-    put-16-requires put-16-requires-2 put-16-requires-3 put-16-requires-4 put-16-requires-5 put-16-requires-6 put-16-requires-7 seal-requires returns)
+    put-16-requires put-16-requires-2 put-16-requires-3 put-16-requires-4 put-16-requires-5 put-16-requires-6 put-16-requires-7 put-16-requires-8
+    slice-aggregate-put-2 put-requires-2 seal-requires returns)
