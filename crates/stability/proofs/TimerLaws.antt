@@ -1,7 +1,7 @@
 -- The overcurrent elements over lists of calls. The invariant: the window is that of the last twelve sets filed (Demand2.antt), so a set is measured by the
 -- record, and at the same j, where it is by the course; and the timer of an end in use is the one after the sets of the course. Then the laws of sets in a
 -- row, of crate `overcurrent`. And where each A is below 1.1·X, a set leaves a cleared timer cleared.
-use mathlib.Core.Path.{_≡_, refl, sym, _∙_}
+use mathlib.Core.Path.{_≡_, refl, sym, _∙_, subst}
 use mathlib.Core.Logic.{_↔_}
 use mathlib.Core.Bool.{Bool, true, false, not, cond, true≢false}
 use mathlib.Core.List.{List, [], _∷_}
@@ -83,7 +83,8 @@ module _ (v : Setting) (s : T (startable v)) (z : ℕ) where
   timer-kept h k (declines e o) = rw e (k .timer)
   timer-kept h k (clears o) = cleared-timer
   timer-kept h k (reads o) = k .timer
-  timer-kept h k (resets-by-page e o) = rw e cleared-timer
+  timer-kept {t = t} h k (resets-by-page e o) =
+      subst (λ (b : Bool). timerOf (perEnd (λ z. idle)) z ≡ timerBy (cond b [] (t .multiples))) (sym e) cleared-timer
   timer-kept h k (writes e o) = rw e (k .timer)
 
   abbrev invariant : Invariant v (λ c. Unit {0})

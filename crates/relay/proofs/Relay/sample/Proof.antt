@@ -120,7 +120,7 @@ module _ (c : tie.After-place) where
 filling-requires : tie.Need-filling-requires
 filling-requires c κs =
     let n = c .before .before .place .result .fill in
-    let less : n < 12 = c .if2 .taken in
+    let less : n < 12 = omega (arith, c .if2 .taken) in
     record { admitted = admissible-r (at (c .before .before)); unfilled = ne-eqb n 12 (λ e. omega arith) }
 
 returns-3 : tie.Need-returns-3
@@ -130,7 +130,7 @@ measured-requires : tie.Need-measured-requires
 measured-requires c κs =
     let d = c .before .before in
     let n = d .place .result .fill in
-    let more : 12 ≤ n = c .if2 .left in
+    let more : 12 ≤ n = omega (arith, c .if2 .left) in
     let most = at-most d in
     record {
       admitted = admissible-r (at d);
