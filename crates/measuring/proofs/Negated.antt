@@ -1,22 +1,18 @@
 -- A window negated (02, card 1): the numbers that amplitudes are taken of are negated, and what is measured is the same.
 use mathlib.Core.Path.{_≡_, refl, _∙_}
-use mathlib.Core.Bool.{cond}
 use mathlib.Core.List.{List, map}
 use Prim.Native.Nat.{ℕ, zero, suc, _+_, _*_}
 use native.Mathlib.Omega.{arith}
-use lib.Dec.{ltb}
 use lib.IntN.{ℤ, pos, negℤ}
 use lib.ListN.{List·getD-map}
 use Rattle.integer.proofs.Reading.{ints}
 use Rattle.integer.proofs.SumLaws.{sum-same, sum-neg}
-use Rattle.lists.proofs.Places.{upTo-same}
 use Rattle.setting.specs.declared.Setting.{Setting}
 use Rattle.matching.specs.Sets.{System, sysA, sysB, sysC, index}
 use Rattle.amplitude.specs.Amplitude.{amplitude}
 use Rattle.amplitude.proofs.Negated.{amplitude-negated}
 use Rattle.measuring.specs.Window.{at, series, sums, difference}
 use Rattle.measuring.specs.Measuring.{sumℕ, twiceRestraint, harmonics, holding, blocked, readingOf}
-use Rattle.measuring.specs.Largest.{largest, largestOf}
 
 module _ (win : List ℤ) where
   pub series-negated : (z : ℕ) (l : System) (k : ℕ) → series (map negℤ win) z l k ≡ negℤ (series win z l k)
@@ -29,17 +25,8 @@ module _ (win : List ℤ) where
   pub difference-negated : (l : System) (k : ℕ) → difference (map negℤ win) l k ≡ negℤ (difference win l k)
   difference-negated l k = rw (series-negated 0 l k, series-negated 1 l k) (simp ints (omega arith))
 
-  of-end : (z : ℕ) (l : System) → amplitude 1 (series (map negℤ win) z l) ≡ amplitude 1 (series win z l)
-  of-end z l = amplitude-negated (series (map negℤ win) z l) (series win z l) (λ k m. series-negated z l k) 1
-
-  pub largest-same : (z : ℕ) → largest (map negℤ win) z ≡ largest win z
-  unfolding largest
-  largest-same z = rw (of-end z sysA, of-end z sysB, of-end z sysC)
-
-  pub largestOf-same : (E : ℕ) → largestOf E (map negℤ win) ≡ largestOf E win
-  unfolding largestOf
-  largestOf-same E =
-      upTo-same 4 (λ z. cond (ltb z E) (largest (map negℤ win) z) 0) (λ z. cond (ltb z E) (largest win z) 0) (λ z h. rw (largest-same z))
+  pub end-same : (z : ℕ) (l : System) → amplitude 1 (series (map negℤ win) z l) ≡ amplitude 1 (series win z l)
+  end-same z l = amplitude-negated (series (map negℤ win) z l) (series win z l) (λ k m. series-negated z l k) 1
 
 module _ (v : Setting) (win : List ℤ) where
   of-sums : (h : ℕ) (l : System) → amplitude h (sums (v .ends) (map negℤ win) l) ≡ amplitude h (sums (v .ends) win l)
@@ -47,7 +34,7 @@ module _ (v : Setting) (win : List ℤ) where
 
   over-ends : (n : ℕ) (l : System) → sumℕ n (λ z. amplitude 1 (series (map negℤ win) z l)) ≡ sumℕ n (λ z. amplitude 1 (series win z l))
   over-ends zero l = refl
-  over-ends (suc n) l = rw (over-ends n l, of-end win n l)
+  over-ends (suc n) l = rw (over-ends n l, end-same win n l)
 
   restraint-same : (l : System) → twiceRestraint (v .ends) (map negℤ win) l ≡ twiceRestraint (v .ends) win l
   unfolding twiceRestraint

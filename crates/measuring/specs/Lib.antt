@@ -5,4 +5,4 @@ pub mod Unloaded
 pub mod WindowInput
 pub mod Folded
 pub mod Numbers
-pub mod Largest
+pub mod Ends

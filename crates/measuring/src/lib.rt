@@ -2,14 +2,14 @@
 
 ghost use mathlib.Core.Path.{_≡_};
 ghost use mathlib.Core.Bool.{_&&_, _||_};
-ghost use Prim.Native.Nat.{_*_, _≤_, max};
+ghost use Prim.Native.Nat.{_*_, _≤_};
 ghost use lib.IntN.{_-ℤ_};
 ghost use Rattle.matching.specs.Sets.{system};
 ghost use Rattle.characteristic.specs.Characteristic.{starts as startsOf, commonOn};
-ghost use Rattle.measuring.specs.Folded.{combined as combinedOf, Folds, partAt, overEnds, FirstOf, restraintBy, currentsWith, currentsBy};
+ghost use Rattle.measuring.specs.Folded.{combined as combinedOf, Folds, partAt, overEnds, FirstOf, restraintBy, currentsBy};
 ghost use Rattle.measuring.specs.Folded.{CombinedInput, PlaceInput, OverInput};
 ghost use Rattle.measuring.specs.Measuring.{start, readingsOf, ReadingsBy};
-ghost use Rattle.measuring.specs.Largest.{MeasuresEnds, AmplitudesOf, EndsInput, largestBy};
+ghost use Rattle.measuring.specs.Ends.{partOf, PartInput, AmplitudesFrom, StepsInput, taken as takenOf, RestraintInput, MeasuresEnds};
 ghost use Rattle.measuring.specs.Holding.{CommonBlocking};
 ghost use Rattle.measuring.specs.WindowInput.{WindowInput, Measurable, SystemInput};
 use characteristic::Currents;
@@ -33,10 +33,10 @@ pub struct Readings {
     pub c: Reading,
 }
 
-// What is measured of the three systems, and of each end the largest amplitude of its systems, 0 at an end that is not in use.
+// What is measured of the three systems, and the h = 1 amplitudes of the ends where they are asked for: number 3 z + y is of end z and system y.
 pub struct WithEnds {
     pub readings: Readings,
-    pub largest: [u32; 4],
+    pub amplitudes: [u32; 12],
 }
 
 // The sum of number i of each set, each times its share w.
@@ -111,22 +111,53 @@ fn between(f: &[i32], p: usize, y: usize) -> i32
     at(f, p, 0, y) - at(f, p, 1, y)
 }
 
-// The h = 1 amplitude of end z.
-fn end_amplitude(f: &[i32], z: usize, y: usize) -> u32
-    requires { ⌜ PlaceInput (now f) 0 z y ⌝ }
-    ensures { λ r. ⌜ FirstOf (λ p. partAt (now (f .entry)) p z y) r ⌝ }
+// Part p of number i of the sets.
+fn part(f: &[i32], p: usize, i: usize) -> i32
+    requires { ⌜ PartInput (now f) p i ⌝ }
+    ensures { λ r. ⌜ r ≡ partOf (now (f .entry)) p i ⌝ }
 {
-    amplitude::amplitude(
-        at(f, 0, z, y),
-        at(f, 1, z, y),
-        at(f, 2, z, y),
-        at(f, 3, z, y),
-    )
+    f[12 * p + i]
 }
 
-// R, twice the restraint.
-fn twice_restraint(ends: u8, f: &[i32], y: usize) -> u32
-    requires { ⌜ OverInput (now f) ends 0 y ⌝ }
+// The h = 1 amplitude of number i of the sets.
+fn number_amplitude(f: &[i32], i: usize) -> u32
+    requires { ⌜ PartInput (now f) 0 i ⌝ }
+    ensures { λ r. ⌜ FirstOf (λ p. partOf (now (f .entry)) p i) r ⌝ }
+{
+    amplitude::amplitude(part(f, 0, i), part(f, 1, i), part(f, 2, i), part(f, 3, i))
+}
+
+// The h = 1 amplitudes of the numbers from first on in steps of step, below n, each in its place; the others are 0.
+fn amplitudes(f: &[i32], first: usize, step: usize, n: usize) -> [u32; 12]
+    requires { ⌜ StepsInput (now f) first step n ⌝ }
+    ensures { λ r. ⌜ AmplitudesFrom (now (f .entry)) first step n n r ⌝ }
+{
+    let mut a = [0u32; 12];
+    let mut i = first;
+    while i < n {
+        a[i] = number_amplitude(f, i);
+        i += step;
+    }
+    a
+}
+
+// How many numbers of a set have their amplitudes taken: those of the ends in use; with two ends R is not made of them, so none unless they are asked for.
+fn taken(ends: u8, asked: bool) -> usize
+    requires { ⌜ ends ≤ 4 ⌝ }
+    ensures { λ r. ⌜ r ≡ takenOf ends asked ⌝ }
+{
+    if asked {
+        return 3 * (ends as usize);
+    }
+    if ends == 2 {
+        return 0;
+    }
+    3 * (ends as usize)
+}
+
+// R, twice the restraint, where a has the amplitudes that it is made of.
+fn twice_restraint(ends: u8, f: &[i32], y: usize, a: [u32; 12]) -> u32
+    requires { ⌜ RestraintInput (now f) ends y a ⌝ }
     ensures { λ r. ⌜ r ≡ restraintBy ends (now (f .entry)) y ⌝ }
 {
     if ends == 2 {
@@ -137,19 +168,13 @@ fn twice_restraint(ends: u8, f: &[i32], y: usize) -> u32
             between(f, 3, y),
         );
     }
-    let mut r: u32 = 0;
-    let mut z: u8 = 0;
-    while z < ends {
-        r += end_amplitude(f, z as usize, y);
-        z += 1;
-    }
-    r
+    a[y] + a[3 + y] + a[6 + y] + a[9 + y]
 }
 
-// D, H2 and H5 of system y, and the given R.
-fn currents_with(ends: u8, f: &[i32], y: usize, r: u32) -> Currents
-    requires { ⌜ OverInput (now f) ends 0 y ⌝ }
-    ensures { λ x. ⌜ x ≡ currentsWith ends (now (f .entry)) y r ⌝ }
+// D, R, H2 and H5 of system y.
+fn system_currents(ends: u8, f: &[i32], y: usize, a: [u32; 12]) -> Currents
+    requires { ⌜ RestraintInput (now f) ends y a ⌝ }
+    ensures { λ r. ⌜ r ≡ currentsBy ends (now (f .entry)) y ⌝ }
 {
     let c = over_ends(f, ends, 0, y);
     let c3 = over_ends(f, ends, 1, y);
@@ -159,18 +184,10 @@ fn currents_with(ends: u8, f: &[i32], y: usize, r: u32) -> Currents
     let s2 = over_ends(f, ends, 5, y);
     Currents {
         d: amplitude::amplitude(c, c3, s, s3),
-        r: r,
+        r: twice_restraint(ends, f, y, a),
         h2: amplitude::amplitude(c2, 0, 0, s2),
         h5: amplitude::amplitude(c, 0 - c3, s, 0 - s3),
     }
-}
-
-// D, R, H2 and H5 of system y.
-fn system_currents(ends: u8, f: &[i32], y: usize) -> Currents
-    requires { ⌜ OverInput (now f) ends 0 y ⌝ }
-    ensures { λ r. ⌜ r ≡ currentsBy ends (now (f .entry)) y ⌝ }
-{
-    currents_with(ends, f, y, twice_restraint(ends, f, y))
 }
 
 // Whether system y starts.
@@ -178,8 +195,10 @@ pub fn started(v: Setting, win: &[i32], y: usize) -> bool
     requires { ⌜ SystemInput v (now win) y ⌝ }
     ensures { λ b. ⌜ b ≡ start v (now (win .entry)) (system y) ⌝ }
 {
+    let ends = v.ends;
     let f = folded(win);
-    characteristic::starts(v, system_currents(v.ends, &f, y))
+    let a = amplitudes(&f, y, 3, taken(ends, false));
+    characteristic::starts(v, system_currents(ends, &f, y, a))
 }
 
 fn or(a: bool, b: bool) -> bool
@@ -235,89 +254,30 @@ fn readings_by(v: Setting, a: Currents, b: Currents, c: Currents) -> Readings
     }
 }
 
-// What is measured of the three systems over a full window.
+// What is measured of the three systems over a full window, and the ends' amplitudes where they are asked for. Those that R is made of are taken once.
+pub fn measure_ends(v: Setting, win: &[i32], asked: bool) -> WithEnds
+    requires { ⌜ Measurable v (now win) ⌝ }
+    ensures { λ r. ⌜ MeasuresEnds v (now (win .entry)) asked r ⌝ }
+{
+    let ends = v.ends;
+    let f = folded(win);
+    let own = amplitudes(&f, 0, 1, taken(ends, asked));
+    let a = system_currents(ends, &f, 0, own);
+    let b = system_currents(ends, &f, 1, own);
+    let c = system_currents(ends, &f, 2, own);
+    WithEnds {
+        readings: readings_by(v, a, b, c),
+        amplitudes: own,
+    }
+}
+
+// What is measured of the three systems.
 pub fn measure(v: Setting, win: &[i32]) -> Readings
     requires { ⌜ Measurable v (now win) ⌝ }
     ensures { λ r. ⌜ r ≡ readingsOf v (now (win .entry)) ⌝ }
 {
-    let ends = v.ends;
-    let f = folded(win);
-    let a = system_currents(ends, &f, 0);
-    let b = system_currents(ends, &f, 1);
-    let c = system_currents(ends, &f, 2);
-    readings_by(v, a, b, c)
-}
-
-// The h = 1 amplitude of each end of system y, 0 at an end that is not in use.
-fn amplitudes(ends: u8, f: &[i32], y: usize) -> [u32; 4]
-    requires { ⌜ OverInput (now f) ends 0 y ⌝ }
-    ensures { λ r. ⌜ AmplitudesOf ends (now (f .entry)) y r ⌝ }
-{
-    let n = ends as usize;
-    let mut a = [0u32; 4];
-    let mut z: usize = 0;
-    while z < n {
-        a[z] = end_amplitude(f, z, y);
-        z += 1;
-    }
-    a
-}
-
-// R, from the amplitudes of the ends; with two ends it is not made of them.
-fn restraint_from(ends: u8, f: &[i32], y: usize, a: [u32; 4]) -> u32
-    requires { ⌜ EndsInput (now f) ends y a ⌝ }
-    ensures { λ r. ⌜ r ≡ restraintBy ends (now (f .entry)) y ⌝ }
-{
-    if ends == 2 {
-        return twice_restraint(ends, f, y);
-    }
-    a[0] + a[1] + a[2] + a[3]
-}
-
-// D, R, H2 and H5 of system y, whose ends have the amplitudes a.
-fn currents_from(ends: u8, f: &[i32], y: usize, a: [u32; 4]) -> Currents
-    requires { ⌜ EndsInput (now f) ends y a ⌝ }
-    ensures { λ r. ⌜ r ≡ currentsBy ends (now (f .entry)) y ⌝ }
-{
-    currents_with(ends, f, y, restraint_from(ends, f, y, a))
-}
-
-fn larger(a: u32, b: u32) -> u32
-    ensures { λ r. ⌜ r ≡ max a b ⌝ }
-{
-    if a < b { b } else { a }
-}
-
-// At each end, the largest of three systems' amplitudes.
-fn largest(a: [u32; 4], b: [u32; 4], c: [u32; 4]) -> [u32; 4]
-    ensures { λ r. ⌜ r ≡ largestBy a b c ⌝ }
-{
-    let mut r = [0u32; 4];
-    let mut z: usize = 0;
-    while z < 4 {
-        r[z] = larger(a[z], larger(b[z], c[z]));
-        z += 1;
-    }
-    r
-}
-
-// What is measured with the ends' amplitudes; those that R is made of are worked out once.
-pub fn measure_ends(v: Setting, win: &[i32]) -> WithEnds
-    requires { ⌜ Measurable v (now win) ⌝ }
-    ensures { λ r. ⌜ MeasuresEnds v (now (win .entry)) r ⌝ }
-{
-    let ends = v.ends;
-    let f = folded(win);
-    let of_a = amplitudes(ends, &f, 0);
-    let of_b = amplitudes(ends, &f, 1);
-    let of_c = amplitudes(ends, &f, 2);
-    let a = currents_from(ends, &f, 0, of_a);
-    let b = currents_from(ends, &f, 1, of_b);
-    let c = currents_from(ends, &f, 2, of_c);
-    WithEnds {
-        readings: readings_by(v, a, b, c),
-        largest: largest(of_a, of_b, of_c),
-    }
+    let m = measure_ends(v, win, false);
+    m.readings
 }
 
 // Which systems hold back others (02, card 4): no code, the statement and its proof.

@@ -10,14 +10,16 @@ use lib.Dec.{T, eqb, leb, eqb→eq, leb→le}
 use lib.ListN.{getD}
 use Rattle.lists.specs.Tests.{every}
 use Rattle.lists.proofs.TestLaws.{every-at, split}
-use Rattle.overcurrent.specs.Curves.{Curve, veryInverse, extremelyInverse, over, under, entry, LeastAtLeast, EntryLeast, ByStandard}
+use Rattle.overcurrent.specs.Curves.{Curve, veryInverse, extremelyInverse, over, under, entry, LeastAtLeast, EntryLeast, NumberOf, ByStandard}
 use Rattle.overcurrent.specs.Timers.{mostSum}
 
 -- A table whose numbers are the entries for j = 11 to 200, which one test of the 190 tells, has the entry of each such j at place j − 11.
-pub table-at : (xs : List ℕ) (c : Curve) → T (every 190 (λ k. eqb (getD xs k 0) (entry c (11 + k)))) → (j : ℕ) → 11 ≤ j → j ≤ 200 →
-    getD xs (j - 11) 0 ≡ entry c j
-table-at xs c test j l h =
-    eqb→eq _ _ (every-at 190 (λ k. eqb (getD xs k 0) (entry c (11 + k))) test (j - 11) (omega arith)) ∙ ap (entry c) (omega arith)
+pub table-at : {xs : List ℕ} {j r : ℕ} → NumberOf xs (j - 11) r → (c : Curve) → T (every 190 (λ k. eqb (getD xs k 0) (entry c (11 + k)))) →
+    11 ≤ j → j ≤ 200 → r ≡ entry c j
+table-at {xs} {j} read c test l h =
+    read .is
+    ∙ eqb→eq _ _ (every-at 190 (λ k. eqb (getD xs k 0) (entry c (11 + k))) test (j - 11) (omega arith))
+    ∙ ap (entry c) (omega arith)
 
 -- Every entry is one at least, and at most 1,000,000,000: by one test of the 190 for each curve.
 abbrev small : ℕ → Bool

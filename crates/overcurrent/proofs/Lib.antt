@@ -4,3 +4,4 @@ pub mod TimerLaws
 pub mod EndLaws
 pub mod RowLaws
 pub mod PlanningLaws
+pub mod Negated

@@ -3,9 +3,9 @@ use mathlib.Core.Path.{_≡_, refl, sym, subst}
 use mathlib.Core.Bool.{Bool, true, false, not, _&&_, cond, and-false}
 use mathlib.Core.List.{List}
 use Prim.Native.Nat.{ℕ, zero, suc, _+_, _≤_, _<_, min}
+use native.Mathlib.Nat.{max-le}
 use native.Mathlib.Omega.{arith}
 use lib.Dec.{T, ltb, leb, eqb, leb→le, le→leb}
-use lib.ListN.{getD}
 use borrow.Author.Tests.{ltb-true, lt-ltb}
 use Rattle.lists.specs.Tests.{hold, none, _&_}
 use Rattle.lists.proofs.TestLaws.{hold-at, hold-of, is-true}
@@ -13,7 +13,7 @@ use Rattle.overcurrent.specs.declared.Backup.{Backup}
 use Rattle.overcurrent.specs.declared.Timer.{Timer}
 use Rattle.overcurrent.specs.Curves.{Curve, curveOf}
 use Rattle.overcurrent.specs.Timers.{multiple, mostSum, growth, sumAfter, timerAfter, idle}
-use Rattle.overcurrent.specs.Timers.{timerOf, perEnd, timed, backupAfter, sumsWithin, TimerInput, BackupInput}
+use Rattle.overcurrent.specs.Timers.{timerOf, perEnd, timed, backupAfter, sumsWithin, largestIn, TimerInput, BackupInput}
 
 -- ---- one end, after a measured set
 
@@ -40,8 +40,10 @@ sum-within b h (suc (suc zero)) = leb→le _ _ (hold-at (sumsWithin b) h 2)
 sum-within b h (suc (suc (suc zero))) = leb→le _ _ (hold-at (sumsWithin b) h 3)
 sum-within b h (suc (suc (suc (suc z)))) = omega arith
 
-pub input-of : {curve X : ℕ} {A : List ℕ} {b : Backup} → BackupInput curve X A b → (z : ℕ) → TimerInput X (getD A z 0) (timerOf b z)
-input-of {b = b} p z = record { pickup = p .pickup; small = p .small z; sum = sum-within b (p .sums) z }
+-- what an end takes, with A worked out
+pub input-of : {curve X : ℕ} {a : List ℕ} {b : Backup} → BackupInput curve X a b → (z : ℕ) {A : ℕ} → A ≡ largestIn a z → TimerInput X A (timerOf b z)
+input-of {b = b} p z e =
+    record { pickup = p .pickup; small = rw e (max-le (p .small _) (max-le (p .small _) (p .small _))); sum = sum-within b (p .sums) z }
 
 pub within-idle : hold (sumsWithin (perEnd (λ z. idle))) ≡ true
 within-idle = refl
@@ -76,9 +78,6 @@ module _ (E curve X : ℕ) (A : ℕ → ℕ) (b : Backup) where
       end z =
           le→leb _ _
           (by (timed E curve z) _ (timerOf b z) (sum-stays-within (curveOf curve) (multiple X (A z)) (timerOf b z)) (sum-within b (subst T (sym h) tt) z))
-
-pub after-0 : (E X : ℕ) (A : ℕ → ℕ) (b : Backup) → backupAfter E 0 X A b ≡ b
-after-0 E X A b = after-off E 0 X A b refl
 
 -- only the amplitudes of the first E ends are looked at
 pub after-same : (E curve X : ℕ) (A A′ : ℕ → ℕ) (b : Backup) → ((z : ℕ) → z < E → A z ≡ A′ z) → backupAfter E curve X A b ≡ backupAfter E curve X A′ b

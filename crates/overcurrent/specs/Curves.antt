@@ -1,8 +1,10 @@
 -- The two curves (document 02, card 6; IEC 60255-151, curves B and C, multiplier 1, 600 sets a second).
 use mathlib.Core.Path.{_≡_}
 use mathlib.Core.Bool.{cond}
+use mathlib.Core.List.{List}
 use Prim.Native.Nat.{ℕ, _+_, _-_, _*_, _/_, _^_, _≤_}
 use lib.Dec.{eqb}
+use lib.ListN.{getD}
 
 pub data Curve : Type 0 where
   veryInverse : Curve
@@ -33,6 +35,10 @@ pub record LeastAtLeast (a b n : ℕ) : Type 0 where
 
 unfoldable pub EntryLeast : Type 0
 EntryLeast = (c : Curve) (j : ℕ) → 11 ≤ j → j ≤ 200 → LeastAtLeast (over c) (under c j) (entry c j)
+
+-- number k of a table, as the code reads it
+pub record NumberOf (table : List ℕ) (k r : ℕ) : Type 0 where
+  pub is : r ≡ getD table k 0
 
 -- ---- the standard
 

@@ -2,9 +2,9 @@
 use mathlib.Core.Path.{_≡_}
 use mathlib.Core.Bool.{Bool, false, not, _&&_, _||_, cond}
 use mathlib.Core.List.{List, [], _∷_}
-use Prim.Native.Nat.{ℕ, _+_, _*_, _/_, _≤_, min}
+use Prim.Native.Nat.{ℕ, _+_, _*_, _/_, _≤_, min, max}
 use lib.Dec.{leb, ltb, eqb, T}
-use lib.ListN.{length, getD}
+use lib.ListN.{getD}
 use Rattle.lists.specs.Tests.{hold}
 use Rattle.overcurrent.specs.declared.Backup.{Backup}
 use Rattle.overcurrent.specs.declared.Timer.{Timer}
@@ -73,9 +73,12 @@ pub record TimerInput (X A : ℕ) (t : Timer) : Type 0 where
   pub small : A ≤ 32000000
   pub sum : t .sum ≤ mostSum
 
-pub record BackupInput (curve X : ℕ) (A : List ℕ) (b : Backup) : Type 0 where
+-- A of an end from the amplitudes of the ends, number 3·z + y that of end z and system y
+abbrev pub largestIn : List ℕ → (z : ℕ) → ℕ
+largestIn a z = max (getD a (3 * z) 0) (max (getD a (3 * z + 1) 0) (getD a (3 * z + 2) 0))
+
+pub record BackupInput (curve X : ℕ) (a : List ℕ) (b : Backup) : Type 0 where
   pub on : 1 ≤ curve
   pub pickup : 1 ≤ X
-  pub four : length A ≡ 4
-  pub small : (z : ℕ) → getD A z 0 ≤ 32000000
+  pub small : (i : ℕ) → getD a i 0 ≤ 32000000
   pub sums : T (hold (sumsWithin b))

@@ -1,8 +1,9 @@
 // The two curves, by their tables: how many sets an element takes at a multiple of its pick-up.
 
 ghost use mathlib.Core.Path.{_≡_};
-ghost use Prim.Native.Nat.{_≤_};
-ghost use Rattle.overcurrent.specs.Curves.{curveOf, entry as entryOf, EntryLeast, ByStandard};
+ghost use Prim.Native.Nat.{_≤_, _<_};
+ghost use lib.ListN.{length};
+ghost use Rattle.overcurrent.specs.Curves.{curveOf, entry as entryOf, EntryLeast, NumberOf, ByStandard};
 
 // The sets that the very inverse curve takes at j = 11 to 200.
 const VERY_INVERSE: [u32; 190] = [
@@ -392,6 +393,14 @@ const EXTREMELY_INVERSE: [u32; 190] = [
     121,
 ];
 
+// Number k of a table.
+fn number(table: &[u32], k: usize) -> u32
+    requires { ⌜ k < length (now table) ⌝ }
+    ensures { λ r. ⌜ NumberOf (now (table .entry)) k r ⌝ }
+{
+    table[k]
+}
+
 // The entry of a curve's table for j.
 pub fn entry(curve: u8, j: u32) -> u32
     requires { ⌜ (11 ≤ j) × (j ≤ 200) ⌝ }
@@ -399,9 +408,9 @@ pub fn entry(curve: u8, j: u32) -> u32
 {
     let k = (j - 11) as usize;
     if curve == 1 {
-        VERY_INVERSE[k]
+        number(&VERY_INVERSE, k)
     } else {
-        EXTREMELY_INVERSE[k]
+        number(&EXTREMELY_INVERSE, k)
     }
 }
 

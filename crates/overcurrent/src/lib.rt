@@ -5,12 +5,11 @@ pub mod watching;
 
 ghost use mathlib.Core.Path.{_≡_};
 ghost use mathlib.Core.Bool.{cond};
-ghost use Prim.Native.Nat.{_≤_};
-ghost use lib.ListN.{getD};
+ghost use Prim.Native.Nat.{_≤_, _<_, max};
 ghost use Rattle.lists.specs.Tests.{hold};
 ghost use Rattle.overcurrent.specs.Curves.{curveOf};
 ghost use Rattle.overcurrent.specs.Timers.{multiple as multipleOf, mostSum, sumAfter, timerAfter, idle, perEnd, backupAfter};
-ghost use Rattle.overcurrent.specs.Timers.{tripsOf, sumsWithin, TimerInput, BackupInput};
+ghost use Rattle.overcurrent.specs.Timers.{tripsOf, sumsWithin, largestIn, TimerInput, BackupInput};
 ghost use Rattle.overcurrent.specs.Rows.{SummedInARow, TrippedInARow};
 ghost use Rattle.overcurrent.specs.Planning.{PickUp, Unmoved, HeldTrips};
 use measuring::Readings;
@@ -98,20 +97,35 @@ fn end_after(used: bool, curve: u8, pickup: u16, a: u32, t: Timer) -> Timer
     }
 }
 
-// Those of the four ends after a measured set, the curve not 0.
-pub fn backup_after(ends: u8, curve: u8, pickup: u16, largest: [u32; 4], b: Backup) -> Backup
-    requires { ⌜ BackupInput curve pickup largest b ⌝ }
-    ensures { λ r. ⌜ r ≡ backupAfter ends curve pickup (λ z. getD largest z 0) b ⌝ }
+fn larger(a: u32, b: u32) -> u32
+    ensures { λ r. ⌜ r ≡ max a b ⌝ }
+{
+    if a < b { b } else { a }
+}
+
+// A of end z: the largest amplitude of its three systems.
+fn largest(a: [u32; 12], z: usize) -> u32
+    requires { ⌜ z < 4 ⌝ }
+    ensures { λ r. ⌜ r ≡ largestIn a z ⌝ }
+{
+    let at = 3 * z;
+    larger(a[at], larger(a[at + 1], a[at + 2]))
+}
+
+// Those of the four ends after a measured set, by the ends' amplitudes; the curve is not 0.
+pub fn backup_after(ends: u8, curve: u8, pickup: u16, a: [u32; 12], b: Backup) -> Backup
+    requires { ⌜ BackupInput curve pickup a b ⌝ }
+    ensures { λ r. ⌜ r ≡ backupAfter ends curve pickup (largestIn a) b ⌝ }
 {
     let t0 = b.e0;
     let t1 = b.e1;
     let t2 = b.e2;
     let t3 = b.e3;
     Backup {
-        e0: end_after(0 < ends, curve, pickup, largest[0], t0),
-        e1: end_after(1 < ends, curve, pickup, largest[1], t1),
-        e2: end_after(2 < ends, curve, pickup, largest[2], t2),
-        e3: end_after(3 < ends, curve, pickup, largest[3], t3),
+        e0: end_after(0 < ends, curve, pickup, largest(a, 0), t0),
+        e1: end_after(1 < ends, curve, pickup, largest(a, 1), t1),
+        e2: end_after(2 < ends, curve, pickup, largest(a, 2), t2),
+        e3: end_after(3 < ends, curve, pickup, largest(a, 3), t3),
     }
 }
 

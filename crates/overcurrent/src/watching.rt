@@ -11,17 +11,17 @@ pub fn measured(v: Setting, win: &[i32], b: Backup) -> Watched
     ensures { λ r. ⌜ Watches v (now (win .entry)) b r ⌝ }
 {
     let o = v.overcurrent;
+    let m = measuring::measure_ends(v, win, o.curve != 0);
+    let readings = m.readings;
     if o.curve == 0 {
         return Watched {
-            readings: measuring::measure(v, win),
+            readings: readings,
             backup: b,
         };
     }
-    let m = measuring::measure_ends(v, win);
-    let readings = m.readings;
-    let largest = m.largest;
+    let amplitudes = m.amplitudes;
     Watched {
         readings: readings,
-        backup: crate::backup_after(v.ends, o.curve, o.pickup, largest, b),
+        backup: crate::backup_after(v.ends, o.curve, o.pickup, amplitudes, b),
     }
 }

@@ -15,10 +15,9 @@ use Rattle.setting.specs.declared.Setting.{Setting}
 use Rattle.setting.specs.Values.{startable}
 use Rattle.setting.proofs.LimitLaws.{startable-is, timers-on}
 use Rattle.matching.specs.Sets.{sysA, sysB, sysC}
-use Rattle.measuring.specs.Largest.{largest}
 use Rattle.overcurrent.specs.declared.Timer.{Timer}
 use Rattle.overcurrent.specs.Timers.{multiple, mostSum, timerAfter, idle, timerOf, perEnd, tripsOf}
-use Rattle.overcurrent.specs.Watching.{backupBy}
+use Rattle.overcurrent.specs.Watching.{largest, backupBy}
 use Rattle.overcurrent.specs.Rows.{afterSets, grown, Reached, SummedInARow, TrippedInARow}
 use Rattle.overcurrent.specs.Planning.{PickUp}
 use Rattle.overcurrent.proofs.EndLaws.{timer-idle, timer-at, idle-kept}

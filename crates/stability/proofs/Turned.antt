@@ -24,9 +24,10 @@ use Rattle.amplitude.proofs.Negated.{cycle-negated}
 use Rattle.characteristic.specs.Characteristic.{counts}
 use Rattle.measuring.specs.declared.Reading.{Reading}
 use Rattle.measuring.specs.Measuring.{readingOf, readingsOf}
-use Rattle.measuring.proofs.Negated.{series-negated, sums-negated, difference-negated, reading-same, largest-same}
+use Rattle.measuring.proofs.Negated.{series-negated, sums-negated, difference-negated, reading-same}
 use Rattle.overcurrent.specs.Timers.{backupAfter}
 use Rattle.overcurrent.specs.Watching.{backupBy}
+use Rattle.overcurrent.proofs.Negated.{largest-same}
 use Rattle.state.specs.declared.Window.{Window}
 use Rattle.state.specs.State.{numberWithin, afterHeld, atEnd, windowWith, full}
 use Rattle.relay.specs.declared.Relay.{Relay}
@@ -103,7 +104,10 @@ module _ (r : Relay) (w : Window) where
 
   backup-same : backupNow (turnedRelay r) (turnedWindow w) ≡ backupNow r w
   unfolding backupNow backupBy
-  backup-same = let v = r .setting in ap (λ (A : ℕ → ℕ). cond (full w) (backupAfter (v .ends) (v .overcurrent .curve) (v .overcurrent .pickup) A (r .backup)) (r .backup)) (λ i z. largest-same (w .values) z i)
+  backup-same =
+      let o = r .setting .overcurrent in
+      ap (λ (A : ℕ → ℕ). cond (full w) (backupAfter (r .setting .ends) (o .curve) (o .pickup) A (r .backup)) (r .backup))
+      (λ i z. largest-same (w .values) z i)
 
   reply-same : replyNow (turnedRelay r) (turnedWindow w) ≡ replyNow r w
   unfolding replyNow

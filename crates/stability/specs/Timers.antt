@@ -10,10 +10,10 @@ use lib.IntN.{ℤ}
 use Rattle.refusal.specs.Refusals.{Outcome, gives, declines}
 use Rattle.setting.specs.declared.Setting.{Setting}
 use Rattle.setting.specs.Values.{startable}
-use Rattle.measuring.specs.Largest.{largest}
 use Rattle.overcurrent.specs.declared.Timer.{Timer}
 use Rattle.overcurrent.specs.Curves.{Curve, curveOf}
 use Rattle.overcurrent.specs.Timers.{multiple, mostSum, idle, timerOf, perEnd, timed, tripsOf}
+use Rattle.overcurrent.specs.Watching.{largest}
 use Rattle.overcurrent.specs.Rows.{grown, Reached}
 use Rattle.state.specs.declared.Window.{Window}
 use Rattle.state.specs.State.{full}

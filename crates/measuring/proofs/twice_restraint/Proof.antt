@@ -1,11 +1,9 @@
--- `measuring::twice_restraint` meets its contract. With two ends it is one amplitude. Else the loop's invariant: r is the sum of the amplitudes of the
--- first z ends, at most 32,000,000 each. The measure is what is left of the ends.
+-- `measuring::twice_restraint` meets its contract. With two ends it is one amplitude, with three or four the sum of four places, each at most 32,000,000.
 use borrow.Author.Needs.{needs}
-use borrow.Author.Tests.{eq-eqb, ne-eqb}
+use borrow.Author.Tests.{eq-eqb}
 use mathlib.Core.Path.{_≡_, refl, _∙_}
-use mathlib.Core.Bool.{true, false}
-use Prim.Native.Nat.{ℕ, _*_, _-_, _≤_}
-use native.Mathlib.Numerals.{add-one}
+use mathlib.Core.Bool.{true}
+use Prim.Native.Nat.{ℕ, _+_, _≤_}
 use native.Mathlib.Omega.{arith}
 use lib.Dec.{eqb}
 use lib.IntN.{ℤ, _-ℤ_}
@@ -13,50 +11,44 @@ use mir.Syntax.{w32}
 use mir.Val.{toZ, ofZ}
 use Rattle.integer.specs.Within.{_within_}
 use Rattle.integer.proofs.Machine.{back-within}
-use Rattle.measuring.specs.Measuring.{sumℕ}
-use Rattle.measuring.specs.Folded.{partAt, firstBy, restraintBy}
+use Rattle.measuring.specs.Folded.{partAt, restraintBy}
 use Rattle.measuring.proofs.PartLaws.{between-within, handed, handed-is}
+use Rattle.measuring.proofs.EndLaws.{restraint-by-ends}
 use Rattle.measuring.proofs.twice_restraint.Statement.{statement}
 use Rattle.measuring.proofs.twice_restraint.Tie as tie
 
-abbrev Inv-loop : tie.InvT-loop
-Inv-loop ends f y r₀ z₀ r z = (z ≤ ends) × ((r ≡ sumℕ z (λ z. firstBy (λ p. partAt f p z y))) × (r ≤ 32000000 * z))
-
-abbrev μ-loop : tie.MeasureT-loop
-μ-loop ends f y r₀ z₀ r z = ends - z
-
-between-requires : tie.Need-between-requires Inv-loop μ-loop
+between-requires : tie.Need-between-requires
 between-requires c κs = search needs
 
-between-requires-2 : tie.Need-between-requires-2 Inv-loop μ-loop
+between-requires-2 : tie.Need-between-requires-2
 between-requires-2 c κs = search needs
 
-between-requires-3 : tie.Need-between-requires-3 Inv-loop μ-loop
+between-requires-3 : tie.Need-between-requires-3
 between-requires-3 c κs = search needs
 
-between-requires-4 : tie.Need-between-requires-4 Inv-loop μ-loop
+between-requires-4 : tie.Need-between-requires-4
 between-requires-4 c κs = search needs
 
 -- the four parts of end 0 minus end 1, as read
-module _ (c : tie.After-between4 Inv-loop μ-loop) where
-  abbrev start : tie.Start Inv-loop μ-loop
+module _ (c : tie.After-between4) where
+  abbrev start : tie.Start
   start = c .before .before .before .before .before
 
   abbrev g : ℕ → ℤ
   g p = let a = start .args in partAt (a .f .now) p 0 (a .y) -ℤ partAt (a .f .now) p 1 (a .y)
 
   small : (p : ℕ) → g p within 51200000
-  small p = between-within (start .pre .place .parts) p _
+  small p = between-within (start .pre .over .place .parts) p _
 
   of : (p : ℕ) {x : ℤ} → x ≡ g p → toZ w32 (ofZ w32 x) ≡ g p
   of p e = rw e (back-within (small p) w32 refl)
 
-amplitude-requires : tie.Need-amplitude-requires Inv-loop μ-loop
+amplitude-requires : tie.Need-amplitude-requires
 amplitude-requires c κs =
     handed (of c 0 (c .before .before .before .between .ensures)) (of c 1 (c .before .before .between2 .ensures)) (of c 2 (c .before .between3 .ensures))
     (of c 3 (c .between4 .ensures)) (small c 0) (small c 1) (small c 2) (small c 3)
 
-returns : tie.Need-returns Inv-loop μ-loop
+returns : tie.Need-returns
 unfolding restraintBy
 returns c =
     let b = c .before in
@@ -65,40 +57,68 @@ returns c =
     (of b 2 (b .before .between3 .ensures)) (of b 3 (b .between4 .ensures)) (c .amplitude .ensures) .0
     ∙ rw ends
 
-loop-holds : tie.Need-loop-holds Inv-loop μ-loop
-loop-holds c = (omega arith, (refl, omega arith))
+-- with three or four ends: what is known of the four places
+module _ (c : tie.Else1) where
+  three : 3 ≤ c .before .args .ends
+  three = omega (arith, c .before .pre .over .ends .two, c .if1 .left)
 
-cast-end-amplitude : tie.Need-cast-end-amplitude Inv-loop μ-loop
-cast-end-amplitude c = search needs
+mul-result : tie.Need-mul-result
+mul-result c = search needs
 
-end-amplitude-requires : tie.Need-end-amplitude-requires Inv-loop μ-loop
-end-amplitude-requires c κs = search needs
+array-read-result : tie.Need-array-read-result
+array-read-result c = search needs
 
-add-r : tie.Need-add-r Inv-loop μ-loop
-add-r c = search needs
+add-result : tie.Need-add-result
+add-result c = search needs
 
-add-z : tie.Need-add-z Inv-loop μ-loop
-add-z c = search needs
+mul-result-2 : tie.Need-mul-result-2
+mul-result-2 c = search needs
 
-loop-less : tie.Need-loop-less Inv-loop μ-loop
-loop-less c = search needs
+array-read-result-2 : tie.Need-array-read-result-2
+array-read-result-2 c = search needs
 
-loop-again : tie.Need-loop-again Inv-loop μ-loop
-loop-again c =
-    let at = c .before .before in
-    (omega arith, (rw (add-one (at .loop .z), at .loop .inv .1 .0, c .end-amplitude .ensures .is), omega (arith, c .end-amplitude .ensures)))
+add-result-2 : tie.Need-add-result-2
+add-result-2 c =
+    let y = c .before .args .y in
+    let fits = c .before .pre .ends (three c) .small in
+    omega (arith, fits y, fits (3 + y), fits (6 + y), fits (9 + y))
 
-returns-2 : tie.Need-returns-2 Inv-loop μ-loop
-unfolding restraintBy
-returns-2 c =
-    let at = c .before in
-    let start = at .before .before in
-    let all : at .loop .z ≡ start .args .ends = omega arith in
-    let ends : eqb (start .args .ends) 2 ≡ false = ne-eqb _ _ (at .before .if1 .left) in
-    at .loop .inv .1 .0 ∙ rw (ends, all)
+add-result-3 : tie.Need-add-result-3
+add-result-3 c = search needs
+
+mul-result-3 : tie.Need-mul-result-3
+mul-result-3 c = search needs
+
+array-read-result-3 : tie.Need-array-read-result-3
+array-read-result-3 c = search needs
+
+add-result-4 : tie.Need-add-result-4
+add-result-4 c =
+    let y = c .before .args .y in
+    let fits = c .before .pre .ends (three c) .small in
+    omega (arith, fits y, fits (3 + y), fits (6 + y), fits (9 + y))
+
+add-result-5 : tie.Need-add-result-5
+add-result-5 c = search needs
+
+mul-result-4 : tie.Need-mul-result-4
+mul-result-4 c = search needs
+
+array-read-result-4 : tie.Need-array-read-result-4
+array-read-result-4 c = search needs
+
+add-result-6 : tie.Need-add-result-6
+add-result-6 c =
+    let y = c .before .args .y in
+    let fits = c .before .pre .ends (three c) .small in
+    omega (arith, fits y, fits (3 + y), fits (6 + y), fits (9 + y))
+
+returns-2 : tie.Need-returns-2
+returns-2 c = restraint-by-ends (c .before .pre .ends (three c)) (three c) (c .before .pre .over .ends .four)
 
 pub twice-restraint-spec : {M : Type 1} → statement M
 twice-restraint-spec =
     tie.close
-    (tie.spec Inv-loop μ-loop between-requires between-requires-2 between-requires-3 between-requires-4 amplitude-requires returns loop-holds
-    cast-end-amplitude end-amplitude-requires add-r add-z loop-less loop-again returns-2)
+    (tie.spec between-requires between-requires-2 between-requires-3 between-requires-4 amplitude-requires returns mul-result array-read-result add-result
+    mul-result-2 array-read-result-2 add-result-2 add-result-3 mul-result-3 array-read-result-3 add-result-4 add-result-5 mul-result-4 array-read-result-4
+    add-result-6 returns-2)

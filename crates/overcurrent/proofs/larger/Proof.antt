@@ -1,7 +1,7 @@
--- `measuring::larger` meets its contract, by the test.
+-- `overcurrent::larger` meets its contract, by the test.
 use native.Mathlib.Omega.{arith}
-use Rattle.measuring.proofs.larger.Statement.{statement}
-use Rattle.measuring.proofs.larger.Tie as tie
+use Rattle.overcurrent.proofs.larger.Statement.{statement}
+use Rattle.overcurrent.proofs.larger.Tie as tie
 
 returns : tie.Need-returns
 returns c = omega (arith, c .if1 .taken)
