@@ -6,7 +6,7 @@ use Prim.Native.Nat.{ℕ, zero, suc, _+_, _≤_, _<_, min}
 use native.Mathlib.Nat.{max-le}
 use native.Mathlib.Omega.{arith}
 use lib.Dec.{T, ltb, leb, eqb, leb→le, le→leb}
-use borrow.Author.Tests.{ltb-true, lt-ltb}
+use borrow.Author.Tests.{ltb-true, lt-ltb, ne-eqb}
 use Rattle.lists.specs.Tests.{hold, none, _&_}
 use Rattle.lists.proofs.TestLaws.{hold-at, hold-of, is-true}
 use Rattle.overcurrent.specs.declared.Backup.{Backup}
@@ -53,6 +53,10 @@ module _ (E curve X : ℕ) (A : ℕ → ℕ) (b : Backup) where
   abbrev pub after : ℕ → Timer
   after z = cond (timed E curve z) (timerAfter (curveOf curve) (multiple X (A z)) (timerOf b z)) (timerOf b z)
 
+  -- where the curve is not 0
+  abbrev at : ℕ → Timer
+  at z = cond (ltb z E) (timerAfter (curveOf curve) (multiple X (A z)) (timerOf b z)) (timerOf b z)
+
   pub timer-after : (z : ℕ) → z < 4 → timerOf (backupAfter E curve X A b) z ≡ after z
   unfolding backupAfter
   timer-after zero l = refl
@@ -65,6 +69,12 @@ module _ (E curve X : ℕ) (A : ℕ → ℕ) (b : Backup) where
   pub after-off : eqb curve 0 ≡ true → backupAfter E curve X A b ≡ b
   unfolding backupAfter
   after-off e = rw e
+
+  -- at another curve each end is by itself: in use, or not
+  pub by-ends : 1 ≤ curve → {t0 t1 t2 t3 : Timer} → t0 ≡ at 0 → t1 ≡ at 1 → t2 ≡ at 2 → t3 ≡ at 3 →
+      record { e0 = t0; e1 = t1; e2 = t2; e3 = t3 } ≡ backupAfter E curve X A b
+  unfolding backupAfter
+  by-ends on h0 h1 h2 h3 = rw (ne-eqb curve 0 (λ e. omega arith), h0, h1, h2, h3)
 
   pub within-after : hold (sumsWithin b) ≡ true → hold (sumsWithin (backupAfter E curve X A b)) ≡ true
   unfolding backupAfter

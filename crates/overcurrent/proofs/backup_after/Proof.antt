@@ -1,10 +1,6 @@
 -- `backup_after` meets its contract: each end by itself.
 use borrow.Author.Needs.{needs}
-use borrow.Author.Tests.{ne-eqb}
-use mathlib.Core.Path.{refl}
-use native.Mathlib.Omega.{arith}
-use Rattle.overcurrent.specs.Timers.{backupAfter}
-use Rattle.overcurrent.proofs.TimerLaws.{input-of}
+use Rattle.overcurrent.proofs.TimerLaws.{input-of, by-ends}
 use Rattle.overcurrent.proofs.backup_after.Statement.{statement}
 use Rattle.overcurrent.proofs.backup_after.Tie as tie
 
@@ -34,25 +30,16 @@ end-after-requires-4 c κs =
     input-of (c .before .before .before .before .before .before .before .before .before .before .before .pre) 3 (c .largest4 .ensures)
 
 returns : tie.Need-returns
-unfolding backupAfter
 returns c =
     let l4 = c .before in
     let l3 = l4 .before .before in
     let l2 = l3 .before .before in
     let l1 = l2 .before .before in
-    let s = l1 .before .before .before .before .before in
-    rw (
-      ne-eqb (s .args .curve) 0 (λ e. omega arith),
-      l2 .before .end-after .ensures,
-      l3 .before .end-after2 .ensures,
-      l4 .before .end-after3 .ensures,
-      c .end-after4 .ensures,
-      l1 .largest .ensures,
-      l2 .largest2 .ensures,
-      l3 .largest3 .ensures,
-      l4 .largest4 .ensures,
-    )
-    refl
+    by-ends _ _ _ _ _ (l1 .before .before .before .before .before .pre .on)
+    (rw (l1 .largest .ensures) at (l2 .before .end-after .ensures))
+    (rw (l2 .largest2 .ensures) at (l3 .before .end-after2 .ensures))
+    (rw (l3 .largest3 .ensures) at (l4 .before .end-after3 .ensures))
+    (rw (l4 .largest4 .ensures) at (c .end-after4 .ensures))
 
 pub backup-after-spec : {M : Type 1} → statement M
 backup-after-spec =
