@@ -4,8 +4,8 @@
 # make edits    the must-fail edits that the gate leaves out for time.
 # make mutants  wrong programs drawn by chance from the source, which must be refused as well: N for each crate, by SEED.
 # make fuzz     a million blocks through the C calls against the second program, built with the address and undefined-behaviour sanitizers.
-# make speed    the measuring call against the second program's, at 2, 3 and 4 ends: the ratio of times in one run, and instructions (valgrind); and
-#               the turns of a root at light load and at faults.
+# make speed    the measuring call against the second program's, at 2, 3 and 4 ends: the ratio of times in one run, and instructions (valgrind); the
+#               turns of a root at light load and at faults; and the instructions of a set with the overcurrent elements off and on.
 CC = gcc
 CFLAGS = -std=c11 -O2 -Wall -Wextra -Werror
 HOST = target/staticlib/libhost.a
@@ -121,7 +121,7 @@ build/speed: second/speed.c second/root.c second/root.h $(SECOND) include/tdp.h 
 fuzz: build/fuzz-checked
 	build/fuzz-checked 500000
 
-speed: build/speed
+speed: build/speed $(BENCH)
 	build/speed
 	tests/instructions
 

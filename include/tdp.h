@@ -27,7 +27,8 @@ uint32_t tdp_read_setting(const uint8_t *block, size_t length);
 
 /* Starts a fresh relay on a setting block and measures the sets of one sample block in turn: 100 plus the sum of 1, 2, 4 for the systems
  * (phases A, B, C) whose trip is latched after the last set, or the number of the first refusal: of the setting block, then of the sample
- * block, then of each set. */
+ * block, then of each set. The answer is the differential element's; the overcurrent elements that bytes 74 to 76 of a setting turn on do not
+ * show in it. */
 uint32_t tdp_measure(const uint8_t *setting, size_t setting_length, const uint8_t *samples, size_t samples_length);
 
 #ifdef __cplusplus

@@ -1,7 +1,9 @@
 /* Times the host's measuring call against the second program's on full sample
  * blocks, and counts the turns of a root at light load and at faults. `speed`
  * prints the ratio for 2, 3 and 4 ends and the turns; `speed ours E count` and
- * `speed second E count` run one side alone. */
+ * `speed second E count` run one side alone; `speed stream E X count` writes a
+ * setting block and so many sample blocks for the bench program, with curve 2 and
+ * pick-up X, or with curve 0 where X is 0. */
 #include "../include/tdp.h"
 #include "draw.h"
 #include "root.h"
@@ -254,6 +256,32 @@ static int alone(measure_call *call, const char *ends, const char *count)
     return 0;
 }
 
+/* A setting and sample blocks of all kinds, one after another. */
+static int stream(const char *ends, const char *pickup, const char *count)
+{
+    unsigned long e = strtoul(ends, NULL, 10), x = strtoul(pickup, NULL, 10);
+    unsigned long n = strtoul(count, NULL, 10);
+    struct draw d = {0x57EA + e};
+    uint8_t block[BLOCK_BYTES];
+    struct setting s;
+
+    if (e < 2 || e > MAX_ENDS)
+        return 2;
+    draw_setting(&d, (uint8_t)e, &s);
+    s.overcurrent = (uint16_t)x;
+    s.curve = x != 0 ? CURVES : 0;
+    lay_setting(&s, block);
+    fwrite(block, 1, BLOCK_BYTES, stdout);
+    for (unsigned long i = 0; i < n; i++) {
+        int16_t list[BLOCK_NUMBERS];
+
+        draw_sets(&d, &s, (enum kind)(i % (FAULT + 1)), list);
+        write_samples(block, BLOCK_BYTES, 0, list, BLOCK_NUMBERS);
+        fwrite(block, 1, BLOCK_BYTES, stdout);
+    }
+    return 0;
+}
+
 int main(int argc, char **argv)
 {
     static struct load load;
@@ -264,8 +292,10 @@ int main(int argc, char **argv)
         return alone(tdp_measure, argv[2], argv[3]);
     if (argc == 4 && strcmp(argv[1], "second") == 0)
         return alone(measure_block, argv[2], argv[3]);
+    if (argc == 5 && strcmp(argv[1], "stream") == 0)
+        return stream(argv[2], argv[3], argv[4]);
     if (argc != 1) {
-        fputs("usage: speed [ours|second E count]\n", stderr);
+        fputs("usage: speed [ours|second E count | stream E X count]\n", stderr);
         return 2;
     }
     for (uint8_t ends = 2; ends <= MAX_ENDS; ends++) {

@@ -6,7 +6,6 @@ use native.Mathlib.Omega.{arith}
 use lib.Dec.{T, ltb, eqb}
 use borrow.Author.Tests.{le-ltb, ltb-true, ltb-false}
 use Rattle.overcurrent.specs.declared.Backup.{Backup}
-use Rattle.overcurrent.specs.declared.Timer.{Timer}
 use Rattle.overcurrent.specs.Curves.{curveOf}
 use Rattle.overcurrent.specs.Timers.{multiple, timerAfter, idle, timerOf, perEnd, timed, backupAfter}
 use Rattle.overcurrent.proofs.TimerLaws.{idle-stays, after, timer-after}
