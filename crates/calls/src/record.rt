@@ -2,8 +2,8 @@
 
 ghost use mathlib.Core.Path.{_≡_};
 ghost use lib.ListN.{length};
+use inverse_time::Timer;
 use overcurrent::Backup;
-use overcurrent::Timer;
 use page::Events;
 use relay::Relay;
 use setting::End;

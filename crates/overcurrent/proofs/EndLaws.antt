@@ -6,9 +6,11 @@ use native.Mathlib.Omega.{arith}
 use lib.Dec.{T, ltb, eqb}
 use borrow.Author.Tests.{le-ltb, ltb-true, ltb-false}
 use Rattle.overcurrent.specs.declared.Backup.{Backup}
-use Rattle.overcurrent.specs.Curves.{curveOf}
-use Rattle.overcurrent.specs.Timers.{multiple, timerAfter, idle, timerOf, perEnd, timed, backupAfter}
-use Rattle.overcurrent.proofs.TimerLaws.{idle-stays, after, timer-after}
+use Rattle.inverse_time.specs.Curves.{curveOf}
+use Rattle.inverse_time.specs.Timers.{multiple, timerAfter, idle}
+use Rattle.overcurrent.specs.Ends.{timerOf, perEnd, timed, backupAfter}
+use Rattle.inverse_time.proofs.TimerLaws.{idle-stays}
+use Rattle.overcurrent.proofs.BackupLaws.{after, timer-after}
 
 pub timer-idle : (z : ℕ) → timerOf (perEnd (λ z. idle)) z ≡ idle
 timer-idle zero = refl

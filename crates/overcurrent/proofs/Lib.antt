@@ -1,7 +1,4 @@
--- Laws of the curves and their tables, of an end's sum and trip, of measured sets in a row, and of what a planner asks.
-pub mod CurveLaws
-pub mod TimerLaws
+-- Laws of the four ends' sums and trips, by themselves and for the theorems over lists of calls.
+pub mod BackupLaws
 pub mod EndLaws
-pub mod RowLaws
-pub mod PlanningLaws
 pub mod Negated

@@ -1,6 +1,2 @@
-pub mod Curves
-pub mod Timers
+pub mod Ends
 pub mod Watching
-pub mod Rows
-pub mod Planning
-pub mod Worked

@@ -15,7 +15,7 @@ use Rattle.measuring.specs.Measuring.{readingsOf}
 use Rattle.measuring.specs.WindowInput.{Measurable}
 use Rattle.overcurrent.specs.declared.Backup.{Backup}
 use Rattle.overcurrent.specs.declared.Watched.{Watched}
-use Rattle.overcurrent.specs.Timers.{backupAfter, sumsWithin}
+use Rattle.overcurrent.specs.Ends.{backupAfter, sumsWithin}
 
 -- A is the largest h = 1 amplitude of the end's three systems
 unfoldable pub largest : List ℤ → (z : ℕ) → ℕ

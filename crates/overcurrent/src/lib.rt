@@ -1,25 +1,18 @@
-// Backup overcurrent: the inverse-time element of each end, its sum and its trip.
+// Backup overcurrent: the inverse-time elements of the four ends, their sums and trips.
 
-pub mod curves;
 pub mod watching;
 
 ghost use mathlib.Core.Path.{_≡_};
 ghost use mathlib.Core.Bool.{cond};
-ghost use Prim.Native.Nat.{_≤_, _<_, max};
+ghost use Prim.Native.Nat.{_<_, max};
 ghost use Rattle.lists.specs.Tests.{hold};
-ghost use Rattle.overcurrent.specs.Curves.{curveOf};
-ghost use Rattle.overcurrent.specs.Timers.{multiple as multipleOf, mostSum, sumAfter, timerAfter, idle, perEnd, backupAfter};
-ghost use Rattle.overcurrent.specs.Timers.{tripsOf, sumsWithin, largestIn, TimerInput, BackupInput};
-ghost use Rattle.overcurrent.specs.Rows.{SummedInARow, TrippedInARow};
-ghost use Rattle.overcurrent.specs.Planning.{PickUp, Unmoved, HeldTrips};
+ghost use Rattle.inverse_time.specs.Curves.{curveOf};
+ghost use Rattle.inverse_time.specs.Timers.{multiple, timerAfter, idle, TimerInput};
+ghost use Rattle.overcurrent.specs.Ends.{perEnd, backupAfter, tripsOf, sumsWithin, largestIn, BackupInput};
+use inverse_time::Timer;
 use measuring::Readings;
 
-// The sum and the trip of an end, and those of the four.
-pub struct Timer {
-    pub sum: u32,
-    pub trip: bool,
-}
-
+// The sums and trips of the four ends.
 pub struct Backup {
     pub e0: Timer,
     pub e1: Timer,
@@ -41,57 +34,13 @@ pub struct Watched {
     pub backup: Backup,
 }
 
-// j, the multiple of the pick-up in tenths: at most 200.
-fn multiple(pickup: u16, a: u32) -> u32
-    requires { ⌜ (1 ≤ pickup) × (a ≤ 32000000) ⌝ }
-    ensures { λ r. ⌜ r ≡ multipleOf pickup a ⌝ }
-{
-    let j = 10 * a / (pickup as u32);
-    if 200 < j { 200 } else { j }
-}
-
-// The sum of an end in use after a measured set.
-fn sum_after(curve: u8, j: u32, sum: u32) -> u32
-    requires { ⌜ (j ≤ 200) × (sum ≤ mostSum) ⌝ }
-    ensures { λ r. ⌜ r ≡ sumAfter (curveOf curve) j sum ⌝ }
-{
-    if j < 11 {
-        return 0;
-    }
-    let grown = sum + 1000000000 / curves::entry(curve, j);
-    if grown < 1000000000 {
-        grown
-    } else {
-        1000000000
-    }
-}
-
-// Its sum and its trip.
-fn timer_after(curve: u8, pickup: u16, a: u32, t: Timer) -> Timer
-    requires { ⌜ TimerInput pickup a t ⌝ }
-    ensures { λ r. ⌜ r ≡ timerAfter (curveOf curve) (multipleOf pickup a) t ⌝ }
-{
-    let j = multiple(pickup, a);
-    let sum = sum_after(curve, j, t.sum);
-    if t.trip {
-        return Timer {
-            sum: sum,
-            trip: true,
-        };
-    }
-    Timer {
-        sum: sum,
-        trip: sum == 1000000000,
-    }
-}
-
-// The same where the end is in use; else sum and trip stay.
+// The sum and the trip of an end after a measured set where it is in use; else they stay.
 fn end_after(used: bool, curve: u8, pickup: u16, a: u32, t: Timer) -> Timer
     requires { ⌜ TimerInput pickup a t ⌝ }
-    ensures { λ r. ⌜ r ≡ cond used (timerAfter (curveOf curve) (multipleOf pickup a) t) t ⌝ }
+    ensures { λ r. ⌜ r ≡ cond used (timerAfter (curveOf curve) (multiple pickup a) t) t ⌝ }
 {
     if used {
-        timer_after(curve, pickup, a, t)
+        inverse_time::timer_after(curve, pickup, a, t)
     } else {
         t
     }
@@ -172,13 +121,3 @@ pub fn tripped(b: Backup) -> Trips
         e3: b.e3.trip,
     }
 }
-
-// The sum and the trip over any number of measured sets, by those in a row: no code, the statements and their proofs.
-pub fn in_a_row()
-    ensures { λ _. ⌜ SummedInARow × TrippedInARow ⌝ }
-{}
-
-// What a planner asks of a pick-up and a curve: no code, the statements and their proofs.
-pub fn planning()
-    ensures { λ _. ⌜ PickUp × (Unmoved × HeldTrips) ⌝ }
-{}

@@ -20,9 +20,9 @@ use Rattle.state.specs.State.{elementOf, perSystem, clear, countersWithin, full
 use Rattle.state.proofs.Placed.{sized-test, windowWith-fill}
 use Rattle.state.proofs.Elements.{counters-test, element-≤}
 use Rattle.relay.specs.declared.Relay.{Relay}
-use Rattle.overcurrent.specs.Timers.{sumsWithin}
+use Rattle.overcurrent.specs.Ends.{sumsWithin}
 use Rattle.overcurrent.specs.Watching.{backupBy}
-use Rattle.overcurrent.proofs.TimerLaws.{within-after, within-idle}
+use Rattle.overcurrent.proofs.BackupLaws.{within-after, within-idle}
 use Rattle.page.specs.declared.Events.{Events}
 use Rattle.page.specs.Events.{within, written as writtenEvents}
 use Rattle.page.proofs.EventLaws.{raised-within, written-within}

@@ -13,7 +13,7 @@ use Rattle.relay.specs.declared.Relay.{Relay}
 use Rattle.state.specs.State.{elementAfter, latchesOf, full}
 use Rattle.state.proofs.Elements.{latch-kept}
 use Rattle.overcurrent.specs.declared.Backup.{Backup}
-use Rattle.overcurrent.specs.Timers.{tripsOf}
+use Rattle.overcurrent.specs.Ends.{tripsOf}
 use Rattle.overcurrent.specs.Watching.{backupBy}
 use Rattle.page.specs.declared.Events.{Events}
 use Rattle.page.specs.Events.{newFlags, raised}

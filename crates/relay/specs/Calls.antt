@@ -29,7 +29,8 @@ use Rattle.measuring.specs.Measuring.{differential, start, blocked, readingOf}
 use Rattle.state.specs.State.{elementOf, perSystem, elementAfter, clear, latchesOf, windowWith, full}
 use Rattle.overcurrent.specs.declared.Backup.{Backup}
 use Rattle.overcurrent.specs.declared.Trips.{Trips}
-use Rattle.overcurrent.specs.Timers.{perEnd, idle, tripsOf}
+use Rattle.inverse_time.specs.Timers.{idle}
+use Rattle.overcurrent.specs.Ends.{perEnd, tripsOf}
 use Rattle.overcurrent.specs.Watching.{backupBy}
 use Rattle.page.specs.declared.Events.{Events}
 use Rattle.page.specs.Events.{newFlags, refusedSet, raised}

@@ -10,7 +10,8 @@ use Rattle.setting.specs.Values.{startable}
 use Rattle.state.specs.State.{perSystem, clear, numberWithin, countersWithin}
 use Rattle.page.specs.declared.Events.{Events}
 use Rattle.page.specs.Events.{quiet, within}
-use Rattle.overcurrent.specs.Timers.{perEnd, idle, sumsWithin}
+use Rattle.inverse_time.specs.Timers.{idle}
+use Rattle.overcurrent.specs.Ends.{perEnd, sumsWithin}
 use Rattle.relay.specs.declared.Relay.{Relay}
 
 -- ---- a fresh relay: the values of its setting, empty windows, all else zero or clear

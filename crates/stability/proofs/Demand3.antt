@@ -34,7 +34,7 @@ use Rattle.characteristic.proofs.Bound.{quiet-bound}
 use Rattle.measuring.specs.Window.{sums}
 use Rattle.measuring.specs.Measuring.{differential, start, blocked, readingOf, readingsOf}
 use Rattle.state.specs.declared.Window.{Window}
-use Rattle.overcurrent.specs.Timers.{tripsOf}
+use Rattle.overcurrent.specs.Ends.{tripsOf}
 use Rattle.state.specs.State.{elementOf, perSystem, clear, latchesOf, full}
 use Rattle.bits.specs.declared.Bits.{Bits}
 use Rattle.bits.specs.Bits.{bitsOf}

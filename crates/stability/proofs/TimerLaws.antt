@@ -15,14 +15,15 @@ use Rattle.setting.specs.declared.Setting.{Setting}
 use Rattle.setting.specs.Values.{startable}
 use Rattle.setting.proofs.LimitLaws.{startable-is, timers-on}
 use Rattle.matching.specs.Sets.{sysA, sysB, sysC}
-use Rattle.overcurrent.specs.declared.Timer.{Timer}
-use Rattle.overcurrent.specs.Timers.{multiple, mostSum, timerAfter, idle, timerOf, perEnd, tripsOf}
+use Rattle.inverse_time.specs.declared.Timer.{Timer}
+use Rattle.inverse_time.specs.Timers.{multiple, mostSum, timerAfter, idle}
+use Rattle.overcurrent.specs.Ends.{timerOf, perEnd, tripsOf}
 use Rattle.overcurrent.specs.Watching.{largest, backupBy}
-use Rattle.overcurrent.specs.Rows.{afterSets, grown, Reached, SummedInARow, TrippedInARow}
-use Rattle.overcurrent.specs.Planning.{PickUp}
+use Rattle.inverse_time.specs.Rows.{afterSets, grown, Reached, SummedInARow, TrippedInARow}
+use Rattle.inverse_time.specs.Planning.{PickUp}
 use Rattle.overcurrent.proofs.EndLaws.{timer-idle, timer-at, idle-kept}
-use Rattle.overcurrent.proofs.RowLaws.{summed-in-a-row, tripped-in-a-row}
-use Rattle.overcurrent.proofs.PlanningLaws.{pick-up}
+use Rattle.inverse_time.proofs.RowLaws.{summed-in-a-row, tripped-in-a-row}
+use Rattle.inverse_time.proofs.PlanningLaws.{pick-up}
 use Rattle.state.specs.declared.Window.{Window}
 use Rattle.state.specs.State.{full}
 use Rattle.relay.specs.declared.Relay.{Relay}

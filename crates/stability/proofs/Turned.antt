@@ -25,7 +25,7 @@ use Rattle.characteristic.specs.Characteristic.{counts}
 use Rattle.measuring.specs.declared.Reading.{Reading}
 use Rattle.measuring.specs.Measuring.{readingOf, readingsOf}
 use Rattle.measuring.proofs.Negated.{series-negated, sums-negated, difference-negated, reading-same}
-use Rattle.overcurrent.specs.Timers.{backupAfter}
+use Rattle.overcurrent.specs.Ends.{backupAfter}
 use Rattle.overcurrent.specs.Watching.{backupBy}
 use Rattle.overcurrent.proofs.Negated.{largest-same}
 use Rattle.state.specs.declared.Window.{Window}

@@ -22,7 +22,7 @@ use Rattle.amplitude.specs.Amplitude.{t, weightedSum, cycle, amplitude}
 use Rattle.characteristic.specs.Characteristic.{starts, hasHarmonics, holdsBack}
 use Rattle.measuring.specs.Measuring.{twiceRestraint, harmonics, holding, blocked, readingOf, readingsOf}
 use Rattle.measuring.specs.Unloaded.{ripple}
-use Rattle.overcurrent.specs.Timers.{backupAfter}
+use Rattle.overcurrent.specs.Ends.{backupAfter}
 use Rattle.overcurrent.specs.Watching.{backupBy}
 use Rattle.state.specs.State.{elementOf, elementAfter, windowWith}
 use Rattle.relay.specs.Record.{fresh, admissible}

@@ -10,11 +10,12 @@ use lib.IntN.{ℤ}
 use Rattle.refusal.specs.Refusals.{Outcome, gives, declines}
 use Rattle.setting.specs.declared.Setting.{Setting}
 use Rattle.setting.specs.Values.{startable}
-use Rattle.overcurrent.specs.declared.Timer.{Timer}
-use Rattle.overcurrent.specs.Curves.{Curve, curveOf}
-use Rattle.overcurrent.specs.Timers.{multiple, mostSum, idle, timerOf, perEnd, timed, tripsOf}
+use Rattle.inverse_time.specs.declared.Timer.{Timer}
+use Rattle.inverse_time.specs.Curves.{Curve, curveOf}
+use Rattle.inverse_time.specs.Timers.{multiple, mostSum, idle}
+use Rattle.overcurrent.specs.Ends.{timerOf, perEnd, timed, tripsOf}
 use Rattle.overcurrent.specs.Watching.{largest}
-use Rattle.overcurrent.specs.Rows.{grown, Reached}
+use Rattle.inverse_time.specs.Rows.{grown, Reached}
 use Rattle.state.specs.declared.Window.{Window}
 use Rattle.state.specs.State.{full}
 use Rattle.relay.specs.declared.Relay.{Relay}

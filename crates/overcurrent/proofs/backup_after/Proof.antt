@@ -1,6 +1,6 @@
 -- `backup_after` meets its contract: each end by itself.
 use borrow.Author.Needs.{needs}
-use Rattle.overcurrent.proofs.TimerLaws.{input-of, by-ends}
+use Rattle.overcurrent.proofs.BackupLaws.{input-of, by-ends}
 use Rattle.overcurrent.proofs.backup_after.Statement.{statement}
 use Rattle.overcurrent.proofs.backup_after.Tie as tie
 

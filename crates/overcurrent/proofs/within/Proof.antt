@@ -4,7 +4,7 @@ use lib.Dec.{le→leb}
 use lib.ListN.{take}
 use Rattle.lists.specs.Tests.{none, _&_}
 use Rattle.lists.proofs.TestLaws.{hold-not, hold-last}
-use Rattle.overcurrent.specs.Timers.{sumsWithin}
+use Rattle.overcurrent.specs.Ends.{sumsWithin}
 use Rattle.overcurrent.proofs.within.Statement.{statement}
 use Rattle.overcurrent.proofs.within.Tie as tie
 

@@ -17,9 +17,9 @@ use Rattle.amplitude.specs.Amplitude.{amplitude}
 use Rattle.measuring.specs.declared.WithEnds.{WithEnds}
 use Rattle.measuring.specs.Window.{series}
 use Rattle.measuring.specs.Ends.{MeasuresEnds}
-use Rattle.overcurrent.specs.Timers.{largestIn}
+use Rattle.overcurrent.specs.Ends.{largestIn}
 use Rattle.overcurrent.specs.Watching.{largest, backupBy}
-use Rattle.overcurrent.proofs.TimerLaws.{after-off, after-same}
+use Rattle.overcurrent.proofs.BackupLaws.{after-off, after-same}
 use Rattle.overcurrent.proofs.watching.measured.Statement.{statement}
 use Rattle.overcurrent.proofs.watching.measured.Tie as tie
 

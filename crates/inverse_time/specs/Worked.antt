@@ -4,10 +4,10 @@ use mathlib.Core.Bool.{true, false}
 use mathlib.Core.List.{List, [], _∷_, map}
 use Prim.Native.Nat.{ℕ}
 use lib.ListN.{replicate}
-use Rattle.overcurrent.specs.declared.Timer.{Timer}
-use Rattle.overcurrent.specs.Curves.{veryInverse, extremelyInverse, entry}
-use Rattle.overcurrent.specs.Timers.{multiple, growth, sumAfter, timerAfter, idle}
-use Rattle.overcurrent.specs.Rows.{afterSets}
+use Rattle.inverse_time.specs.declared.Timer.{Timer}
+use Rattle.inverse_time.specs.Curves.{veryInverse, extremelyInverse, entry}
+use Rattle.inverse_time.specs.Timers.{multiple, growth, sumAfter, timerAfter, idle}
+use Rattle.inverse_time.specs.Rows.{afterSets}
 
 numbers : List (ℕ × ℕ)
 numbers =

@@ -6,9 +6,9 @@ use mathlib.Core.List.{List}
 use Prim.Native.Nat.{ℕ, _*_, _≤_, _<_}
 use lib.ListN.{replicate}
 use Rattle.lists.specs.Tests.{Each}
-use Rattle.overcurrent.specs.Curves.{Curve, entry, LeastAtLeast}
-use Rattle.overcurrent.specs.Timers.{multiple, mostSum, growth, idle}
-use Rattle.overcurrent.specs.Rows.{afterSets}
+use Rattle.inverse_time.specs.Curves.{Curve, entry, LeastAtLeast}
+use Rattle.inverse_time.specs.Timers.{multiple, mostSum, growth, idle}
+use Rattle.inverse_time.specs.Rows.{afterSets}
 
 -- j is below 11 exactly where A is below 1.1·X
 unfoldable pub PickUp : Type 0

@@ -1,8 +1,8 @@
 -- `timer_after` meets its contract: tripped already, or not.
 use borrow.Author.Needs.{needs}
-use Rattle.overcurrent.specs.Timers.{multiple, timerAfter}
-use Rattle.overcurrent.proofs.timer_after.Statement.{statement}
-use Rattle.overcurrent.proofs.timer_after.Tie as tie
+use Rattle.inverse_time.specs.Timers.{multiple, timerAfter}
+use Rattle.inverse_time.proofs.timer_after.Statement.{statement}
+use Rattle.inverse_time.proofs.timer_after.Tie as tie
 
 multiple-requires : tie.Need-multiple-requires
 multiple-requires c κs = search needs

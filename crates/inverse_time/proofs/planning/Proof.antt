@@ -1,7 +1,7 @@
 -- `planning` states what PlanningLaws proves.
-use Rattle.overcurrent.proofs.PlanningLaws.{pick-up, unmoved, held-trips}
-use Rattle.overcurrent.proofs.planning.Statement.{statement}
-use Rattle.overcurrent.proofs.planning.Tie as tie
+use Rattle.inverse_time.proofs.PlanningLaws.{pick-up, unmoved, held-trips}
+use Rattle.inverse_time.proofs.planning.Statement.{statement}
+use Rattle.inverse_time.proofs.planning.Tie as tie
 
 returns : tie.Need-returns
 returns c = (pick-up, (unmoved, held-trips))

@@ -6,9 +6,9 @@ use mathlib.Core.Bool.{true, cond}
 use mathlib.Core.List.{List, [], _∷_, _++_, foldr}
 use Prim.Native.Nat.{ℕ, _+_, _≤_, min}
 use lib.Dec.{ltb}
-use Rattle.overcurrent.specs.declared.Timer.{Timer}
-use Rattle.overcurrent.specs.Curves.{Curve}
-use Rattle.overcurrent.specs.Timers.{mostSum, growth, timerAfter, idle}
+use Rattle.inverse_time.specs.declared.Timer.{Timer}
+use Rattle.inverse_time.specs.Curves.{Curve}
+use Rattle.inverse_time.specs.Timers.{mostSum, growth, timerAfter, idle}
 
 -- the sum and the trip after these sets
 abbrev pub afterSets : Curve → List ℕ → Timer

@@ -10,8 +10,8 @@ use lib.Dec.{T, eqb, leb, eqb→eq, leb→le}
 use lib.ListN.{getD}
 use Rattle.lists.specs.Tests.{every}
 use Rattle.lists.proofs.TestLaws.{every-at, split}
-use Rattle.overcurrent.specs.Curves.{Curve, veryInverse, extremelyInverse, over, under, entry, LeastAtLeast, EntryLeast, NumberOf, ByStandard}
-use Rattle.overcurrent.specs.Timers.{mostSum}
+use Rattle.inverse_time.specs.Curves.{Curve, veryInverse, extremelyInverse, over, under, entry, LeastAtLeast, EntryLeast, NumberOf, ByStandard}
+use Rattle.inverse_time.specs.Timers.{mostSum}
 
 -- A table whose numbers are the entries for j = 11 to 200, which one test of the 190 tells, has the entry of each such j at place j − 11.
 pub table-at : {xs : List ℕ} {j r : ℕ} → NumberOf xs (j - 11) r → (c : Curve) → T (every 190 (λ k. eqb (getD xs k 0) (entry c (11 + k)))) →

@@ -9,10 +9,10 @@ use Prim.Native.Nat.{ℕ, _+_, _≤_, min}
 use native.Mathlib.Omega.{arith}
 use lib.Dec.{ltb}
 use borrow.Author.Tests.{eq-eqb, eqb-true}
-use Rattle.overcurrent.specs.declared.Timer.{Timer}
-use Rattle.overcurrent.specs.Curves.{Curve}
-use Rattle.overcurrent.specs.Timers.{mostSum, growth, sumAfter, timerAfter}
-use Rattle.overcurrent.specs.Rows.{afterSets, grown, Reached, SummedInARow, TrippedInARow}
+use Rattle.inverse_time.specs.declared.Timer.{Timer}
+use Rattle.inverse_time.specs.Curves.{Curve}
+use Rattle.inverse_time.specs.Timers.{mostSum, growth, sumAfter, timerAfter}
+use Rattle.inverse_time.specs.Rows.{afterSets, grown, Reached, SummedInARow, TrippedInARow}
 
 -- ---- one set, with s in the sum and the trip set or not
 

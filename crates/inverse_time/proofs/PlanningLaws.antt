@@ -11,13 +11,13 @@ use native.Mathlib.Nat.{div-lt-iff-lt-mul, div-mul-le-self, le-div-iff-mul-le, m
 use lib.ListN.{replicate}
 use borrow.Author.Tests.{le-ltb}
 use Rattle.lists.specs.Tests.{none, _&_}
-use Rattle.overcurrent.specs.Curves.{Curve, entry, LeastAtLeast}
-use Rattle.overcurrent.specs.Timers.{multiple, mostSum, growth}
-use Rattle.overcurrent.specs.Rows.{afterSets, grown}
-use Rattle.overcurrent.specs.Planning.{PickUp, Unmoved, HeldTrips}
-use Rattle.overcurrent.proofs.CurveLaws.{entry-within, rounded-up}
-use Rattle.overcurrent.proofs.TimerLaws.{idle-stays}
-use Rattle.overcurrent.proofs.RowLaws.{summed, trips-now, trip-only}
+use Rattle.inverse_time.specs.Curves.{Curve, entry, LeastAtLeast}
+use Rattle.inverse_time.specs.Timers.{multiple, mostSum, growth}
+use Rattle.inverse_time.specs.Rows.{afterSets, grown}
+use Rattle.inverse_time.specs.Planning.{PickUp, Unmoved, HeldTrips}
+use Rattle.inverse_time.proofs.CurveLaws.{entry-within, rounded-up}
+use Rattle.inverse_time.proofs.TimerLaws.{idle-stays}
+use Rattle.inverse_time.proofs.RowLaws.{summed, trips-now, trip-only}
 
 pub pick-up : PickUp
 unfolding PickUp multiple

@@ -5,11 +5,11 @@ use borrow.Author.Needs.{needs}
 use borrow.Author.Tests.{lt-ltb, le-ltb}
 use native.Mathlib.Omega.{arith}
 use native.Mathlib.Nat.{div-le-self}
-use Rattle.overcurrent.specs.Curves.{curveOf}
-use Rattle.overcurrent.specs.Timers.{growth, sumAfter}
-use Rattle.overcurrent.proofs.CurveLaws.{entry-within}
-use Rattle.overcurrent.proofs.sum_after.Statement.{statement}
-use Rattle.overcurrent.proofs.sum_after.Tie as tie
+use Rattle.inverse_time.specs.Curves.{curveOf}
+use Rattle.inverse_time.specs.Timers.{growth, sumAfter}
+use Rattle.inverse_time.proofs.CurveLaws.{entry-within}
+use Rattle.inverse_time.proofs.sum_after.Statement.{statement}
+use Rattle.inverse_time.proofs.sum_after.Tie as tie
 
 returns : tie.Need-returns
 unfolding sumAfter

@@ -1,10 +1,10 @@
 -- `curves::entry` meets its contract: each table passes the test of its rule. Its numbers stand in the code alone.
 use borrow.Author.Needs.{needs}
 use borrow.Author.Tests.{eq-eqb, ne-eqb}
-use Rattle.overcurrent.specs.Curves.{veryInverse, extremelyInverse, entry}
-use Rattle.overcurrent.proofs.CurveLaws.{table-at}
-use Rattle.overcurrent.proofs.curves.entry.Statement.{statement}
-use Rattle.overcurrent.proofs.curves.entry.Tie as tie
+use Rattle.inverse_time.specs.Curves.{veryInverse, extremelyInverse, entry}
+use Rattle.inverse_time.proofs.CurveLaws.{table-at}
+use Rattle.inverse_time.proofs.curves.entry.Statement.{statement}
+use Rattle.inverse_time.proofs.curves.entry.Tie as tie
 
 sub-k : tie.Need-sub-k
 sub-k c = search needs

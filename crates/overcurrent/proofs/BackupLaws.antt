@@ -1,4 +1,4 @@
--- Laws of an end's sum and trip at a measured set: that sums stay within, and what becomes of the four ends.
+-- Laws of the four ends' sums and trips at a measured set: that sums stay within, and what becomes of each end.
 use mathlib.Core.Path.{_≡_, refl, sym, subst}
 use mathlib.Core.Bool.{Bool, true, false, not, _&&_, cond, and-false}
 use mathlib.Core.List.{List}
@@ -10,25 +10,11 @@ use borrow.Author.Tests.{ltb-true, lt-ltb, ne-eqb}
 use Rattle.lists.specs.Tests.{hold, none, _&_}
 use Rattle.lists.proofs.TestLaws.{hold-at, hold-of, is-true}
 use Rattle.overcurrent.specs.declared.Backup.{Backup}
-use Rattle.overcurrent.specs.declared.Timer.{Timer}
-use Rattle.overcurrent.specs.Curves.{Curve, curveOf}
-use Rattle.overcurrent.specs.Timers.{multiple, mostSum, growth, sumAfter, timerAfter, idle}
-use Rattle.overcurrent.specs.Timers.{timerOf, perEnd, timed, backupAfter, sumsWithin, largestIn, TimerInput, BackupInput}
-
--- ---- one end, after a measured set
-
--- a cleared sum stays so below 11
-pub idle-stays : (c : Curve) (j : ℕ) → j < 11 → timerAfter c j idle ≡ idle
-unfolding timerAfter sumAfter
-idle-stays c j h = rw (lt-ltb j 11 h)
-
-sum-stays-within : (c : Curve) (j : ℕ) (t : Timer) → timerAfter c j t .sum ≤ mostSum
-unfolding timerAfter sumAfter
-sum-stays-within c j t = by (ltb j 11)
-  where
-    by : (u : Bool) → cond u 0 (min mostSum (t .sum + growth c j)) ≤ mostSum
-    by true = omega arith
-    by false = omega arith
+use Rattle.inverse_time.specs.declared.Timer.{Timer}
+use Rattle.inverse_time.specs.Curves.{Curve, curveOf}
+use Rattle.inverse_time.specs.Timers.{multiple, mostSum, timerAfter, idle, TimerInput}
+use Rattle.inverse_time.proofs.TimerLaws.{sum-stays-within}
+use Rattle.overcurrent.specs.Ends.{timerOf, perEnd, timed, backupAfter, sumsWithin, largestIn, BackupInput}
 
 -- ---- the four ends, by themselves and after a measured set
 

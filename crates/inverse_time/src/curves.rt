@@ -3,7 +3,7 @@
 ghost use mathlib.Core.Path.{_≡_};
 ghost use Prim.Native.Nat.{_≤_, _<_};
 ghost use lib.ListN.{length};
-ghost use Rattle.overcurrent.specs.Curves.{curveOf, entry as entryOf, EntryLeast, NumberOf, ByStandard};
+ghost use Rattle.inverse_time.specs.Curves.{curveOf, entry as entryOf, EntryLeast, NumberOf, ByStandard};
 
 // The sets that the very inverse curve takes at j = 11 to 200.
 const VERY_INVERSE: [u32; 190] = [

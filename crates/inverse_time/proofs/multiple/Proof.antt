@@ -1,8 +1,8 @@
 -- `multiple` meets its contract: the quotient is above 200, or not.
 use borrow.Author.Needs.{needs}
-use Rattle.overcurrent.specs.Timers.{multiple}
-use Rattle.overcurrent.proofs.multiple.Statement.{statement}
-use Rattle.overcurrent.proofs.multiple.Tie as tie
+use Rattle.inverse_time.specs.Timers.{multiple}
+use Rattle.inverse_time.proofs.multiple.Statement.{statement}
+use Rattle.inverse_time.proofs.multiple.Tie as tie
 
 mul-j : tie.Need-mul-j
 mul-j c = search needs

@@ -1,0 +1,5 @@
+pub mod Curves
+pub mod Timers
+pub mod Rows
+pub mod Planning
+pub mod Worked
