@@ -48,8 +48,8 @@ pub fn trip_after(v: Setting, m: Readings, t: Trip) -> Trip
     }
 }
 
-// The record with a set filed: the window with it, and what it leaves of the other parts.
-fn filed(r: Relay, w: Window, trip: Trip, events: Events, backup: Backup) -> Relay
+// The record of the same setting with other parts: the window, counters and latches, events, overcurrent sums and trips.
+fn renewed(r: Relay, w: Window, trip: Trip, events: Events, backup: Backup) -> Relay
     ensures { λ s. ⌜ s ≡ record { setting = r .setting; window = w; trip = trip; events = events; backup = backup } ⌝ }
 {
     let v = r.setting;
@@ -76,7 +76,7 @@ fn filling(r: Relay, w: Window) -> Sampled
     };
     Sampled {
         answer: Answer::Filling(w.fill),
-        relay: filed(r, w, trip, r.events, r.backup),
+        relay: renewed(r, w, trip, r.events, r.backup),
     }
 }
 
@@ -110,7 +110,7 @@ fn measured(r: Relay, w: Window) -> Sampled
     };
     Sampled {
         answer: Answer::Measured(of_a, of_b, of_c, overcurrent::tripped(backup)),
-        relay: filed(r, w, trip, events, backup),
+        relay: renewed(r, w, trip, events, backup),
     }
 }
 
@@ -152,12 +152,10 @@ pub fn declined(r: Relay, why: Refusal) -> Returned
 pub fn cleared(r: Relay) -> Relay
     ensures { λ s. ⌜ s ≡ clearedOf r ⌝ }
 {
+    let w = r.window;
     let trip = starting::untripped();
-    let mut done = r;
     let backup = overcurrent::untripped();
-    done.trip = trip;
-    done.backup = backup;
-    done
+    renewed(r, w, trip, r.events, backup)
 }
 
 impl Relay {

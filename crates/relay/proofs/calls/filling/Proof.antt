@@ -14,8 +14,8 @@ element-after-requires-2 c κs = search needs
 element-after-requires-3 : tie.Need-element-after-requires-3
 element-after-requires-3 c κs = search needs
 
-filed-requires : tie.Need-filed-requires
-filed-requires c κs = search needs
+renewed-requires : tie.Need-renewed-requires
+renewed-requires c κs = search needs
 
 returns : tie.Need-returns
 returns c =
@@ -24,10 +24,10 @@ returns c =
     record {
       reply = filling-reply (start .args .r) (start .args .w) (start .pre .unfilled);
       relay =
-          c .filed .ensures
+          c .renewed .ensures
           ∙ filling-relay (start .args .r) (start .args .w) (start .pre .unfilled) (start .pre .admitted) (after .before .before .element-after .ensures)
           (after .before .element-after2 .ensures) (after .element-after3 .ensures);
     }
 
 pub filling-spec : {M : Type 1} → statement M
-filling-spec = tie.close (tie.spec element-after-requires element-after-requires-2 element-after-requires-3 filed-requires returns)
+filling-spec = tie.close (tie.spec element-after-requires element-after-requires-2 element-after-requires-3 renewed-requires returns)

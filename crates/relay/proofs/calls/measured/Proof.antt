@@ -32,8 +32,8 @@ events-after-requires c κs =
 tripped-requires : tie.Need-tripped-requires
 tripped-requires c κs = search needs
 
-filed-requires : tie.Need-filed-requires
-filed-requires c κs = search needs
+renewed-requires : tie.Need-renewed-requires
+renewed-requires c κs = search needs
 
 returns : tie.Need-returns
 returns c =
@@ -46,10 +46,10 @@ returns c =
     let full = start done .pre .window .full in
     record {
       reply = rw (c .before .tripped .ensures) (measured-reply r w full (m .readings) t (m .backup));
-      relay = c .filed .ensures ∙ measured-relay r w full (m .readings) t (m .backup) (noted .events-after .ensures);
+      relay = c .renewed .ensures ∙ measured-relay r w full (m .readings) t (m .backup) (noted .events-after .ensures);
     }
 
 pub measured-spec : {M : Type 1} → statement M
 measured-spec =
     tie.close
-    (tie.spec slice-aggregate-measured measured-requires trip-after-requires events-after-requires tripped-requires filed-requires returns)
+    (tie.spec slice-aggregate-measured measured-requires trip-after-requires events-after-requires tripped-requires renewed-requires returns)
