@@ -137,10 +137,10 @@ module _ {f : List ℤ} {E n : ℕ} (asked : Bool) (e : n ≡ taken E asked) whe
 
   module _ {y : ℕ} {a : List ℕ} (over : OverInput f E 0 y) where
     pub ready-by-all : AmplitudesFrom f 0 1 n n a → RestraintInput f E y a
-    ready-by-all h = record { over = over; ends = λ three. of-all (e ∙ taken-three E asked three) y (over .place .system) h }
+    ready-by-all h = record { over = over; twelve = h .long; ends = λ three. of-all (e ∙ taken-three E asked three) y (over .place .system) h }
 
     pub ready-by-one : AmplitudesFrom f y 3 n n a → RestraintInput f E y a
-    ready-by-one h = record { over = over; ends = λ three. of-one (e ∙ taken-three E asked three) y (over .place .system) h }
+    ready-by-one h = record { over = over; twelve = h .long; ends = λ three. of-one (e ∙ taken-three E asked three) y (over .place .system) h }
 
   -- asked for, they are those of the window
   pub asked-are : {win : List ℤ} {a : List ℕ} → Folds win f → AmplitudesFrom f 0 1 n n a → E ≤ 4 → T asked → (z : ℕ) → z < E → (l : System) →

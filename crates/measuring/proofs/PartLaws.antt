@@ -27,7 +27,7 @@ use Rattle.amplitude.proofs.Parts.{first-by-parts, second-by-parts, fifth-by-pa
 use Rattle.measuring.specs.Window.{at, series, sums, difference}
 use Rattle.measuring.specs.Measuring.{sumℕ, twiceRestraint, currentsOf}
 use Rattle.measuring.specs.WindowInput.{WindowInput}
-use Rattle.measuring.specs.Folded.{column, combined, Folds, PartsLike, partAt, overEnds, firstBy, restraintBy, currentsBy}
+use Rattle.measuring.specs.Folded.{column, combined, Folds, PartsLike, partAt, overEnds, firstBy, restraintBy, currentsWith, currentsBy}
 
 -- ---- the parts as the machine adds them up over the ends
 
@@ -228,7 +228,7 @@ module _ {win f : List ℤ} (h : Folds win f) (y : ℕ) (l : y < 3) where
         )
 
     pub currents-are : currentsBy E f y ≡ currentsOf E win (system y)
-    unfolding currentsBy currentsOf
+    unfolding currentsWith currentsOf
     currents-are =
         let u = sums E win (system y) in
         rw (

@@ -58,4 +58,5 @@ pub record EndsOf (E : ℕ) (f : List ℤ) (y : ℕ) (a : List ℕ) : Type 0 whe
 
 pub record RestraintInput (f : List ℤ) (E y : ℕ) (a : List ℕ) : Type 0 where
   pub over : OverInput f E 0 y
+  pub twelve : length a ≡ 12
   pub ends : 3 ≤ E → EndsOf E f y a

@@ -6,7 +6,7 @@ ghost use Prim.Native.Nat.{_*_, _≤_};
 ghost use lib.IntN.{_-ℤ_};
 ghost use Rattle.matching.specs.Sets.{system};
 ghost use Rattle.characteristic.specs.Characteristic.{starts as startsOf, commonOn};
-ghost use Rattle.measuring.specs.Folded.{combined as combinedOf, Folds, partAt, overEnds, FirstOf, restraintBy, currentsBy};
+ghost use Rattle.measuring.specs.Folded.{combined as combinedOf, Folds, partAt, overEnds, FirstOf, restraintBy, currentsWith, currentsBy};
 ghost use Rattle.measuring.specs.Folded.{CombinedInput, PlaceInput, OverInput};
 ghost use Rattle.measuring.specs.Measuring.{start, readingsOf, ReadingsBy};
 ghost use Rattle.measuring.specs.Ends.{partOf, PartInput, AmplitudesFrom, StepsInput, taken as takenOf, RestraintInput, MeasuresEnds};
@@ -156,8 +156,8 @@ fn taken(ends: u8, asked: bool) -> usize
 }
 
 // R, twice the restraint, where a has the amplitudes that it is made of.
-fn twice_restraint(ends: u8, f: &[i32], y: usize, a: [u32; 12]) -> u32
-    requires { ⌜ RestraintInput (now f) ends y a ⌝ }
+fn twice_restraint(ends: u8, f: &[i32], y: usize, a: &[u32]) -> u32
+    requires { ⌜ RestraintInput (now f) ends y (now a) ⌝ }
     ensures { λ r. ⌜ r ≡ restraintBy ends (now (f .entry)) y ⌝ }
 {
     if ends == 2 {
@@ -171,10 +171,10 @@ fn twice_restraint(ends: u8, f: &[i32], y: usize, a: [u32; 12]) -> u32
     a[y] + a[3 + y] + a[6 + y] + a[9 + y]
 }
 
-// D, R, H2 and H5 of system y.
-fn system_currents(ends: u8, f: &[i32], y: usize, a: [u32; 12]) -> Currents
-    requires { ⌜ RestraintInput (now f) ends y a ⌝ }
-    ensures { λ r. ⌜ r ≡ currentsBy ends (now (f .entry)) y ⌝ }
+// D, H2 and H5 of system y, and the given R.
+fn currents_with(ends: u8, f: &[i32], y: usize, r: u32) -> Currents
+    requires { ⌜ OverInput (now f) ends 0 y ⌝ }
+    ensures { λ x. ⌜ x ≡ currentsWith ends (now (f .entry)) y r ⌝ }
 {
     let c = over_ends(f, ends, 0, y);
     let c3 = over_ends(f, ends, 1, y);
@@ -184,10 +184,18 @@ fn system_currents(ends: u8, f: &[i32], y: usize, a: [u32; 12]) -> Currents
     let s2 = over_ends(f, ends, 5, y);
     Currents {
         d: amplitude::amplitude(c, c3, s, s3),
-        r: twice_restraint(ends, f, y, a),
+        r: r,
         h2: amplitude::amplitude(c2, 0, 0, s2),
         h5: amplitude::amplitude(c, 0 - c3, s, 0 - s3),
     }
+}
+
+// D, R, H2 and H5 of system y, where a has the amplitudes that R is made of.
+fn system_currents(ends: u8, f: &[i32], y: usize, a: &[u32]) -> Currents
+    requires { ⌜ RestraintInput (now f) ends y (now a) ⌝ }
+    ensures { λ r. ⌜ r ≡ currentsBy ends (now (f .entry)) y ⌝ }
+{
+    currents_with(ends, f, y, twice_restraint(ends, f, y, a))
 }
 
 // Whether system y starts.
@@ -198,7 +206,7 @@ pub fn started(v: Setting, win: &[i32], y: usize) -> bool
     let ends = v.ends;
     let f = folded(win);
     let a = amplitudes(&f, y, 3, taken(ends, false));
-    characteristic::starts(v, system_currents(ends, &f, y, a))
+    characteristic::starts(v, system_currents(ends, &f, y, &a))
 }
 
 fn or(a: bool, b: bool) -> bool
@@ -262,9 +270,9 @@ pub fn measure_ends(v: Setting, win: &[i32], asked: bool) -> WithEnds
     let ends = v.ends;
     let f = folded(win);
     let own = amplitudes(&f, 0, 1, taken(ends, asked));
-    let a = system_currents(ends, &f, 0, own);
-    let b = system_currents(ends, &f, 1, own);
-    let c = system_currents(ends, &f, 2, own);
+    let a = system_currents(ends, &f, 0, &own);
+    let b = system_currents(ends, &f, 1, &own);
+    let c = system_currents(ends, &f, 2, &own);
     WithEnds {
         readings: readings_by(v, a, b, c),
         amplitudes: own,

@@ -39,20 +39,29 @@ module _ (c : tie.After-amplitudes) where
 slice-aggregate-system-currents : tie.Need-slice-aggregate-system-currents
 slice-aggregate-system-currents c = search needs
 
-system-currents-requires : tie.Need-system-currents-requires
-system-currents-requires c κs = ready (c .before) 0 (omega arith)
-
 slice-aggregate-system-currents-2 : tie.Need-slice-aggregate-system-currents-2
 slice-aggregate-system-currents-2 c = search needs
 
-system-currents-requires-2 : tie.Need-system-currents-requires-2
-system-currents-requires-2 c κs = ready (c .before .before .before) 1 (omega arith)
+system-currents-requires : tie.Need-system-currents-requires
+system-currents-requires c κs = ready (c .before .before) 0 (omega arith)
 
 slice-aggregate-system-currents-3 : tie.Need-slice-aggregate-system-currents-3
 slice-aggregate-system-currents-3 c = search needs
 
+slice-aggregate-system-currents-4 : tie.Need-slice-aggregate-system-currents-4
+slice-aggregate-system-currents-4 c = search needs
+
+system-currents-requires-2 : tie.Need-system-currents-requires-2
+system-currents-requires-2 c κs = ready (c .before .before .before .before .before) 1 (omega arith)
+
+slice-aggregate-system-currents-5 : tie.Need-slice-aggregate-system-currents-5
+slice-aggregate-system-currents-5 c = search needs
+
+slice-aggregate-system-currents-6 : tie.Need-slice-aggregate-system-currents-6
+slice-aggregate-system-currents-6 c = search needs
+
 system-currents-requires-3 : tie.Need-system-currents-requires-3
-system-currents-requires-3 c κs = ready (c .before .before .before .before .before) 2 (omega arith)
+system-currents-requires-3 c κs = ready (c .before .before .before .before .before .before .before .before) 2 (omega arith)
 
 readings-by-requires : tie.Need-readings-by-requires
 readings-by-requires c κs = search needs
@@ -60,9 +69,9 @@ readings-by-requires c κs = search needs
 returns : tie.Need-returns
 returns c =
     let third = c .before in
-    let second = third .before .before in
-    let first = second .before .before in
-    let own = first .before .before in
+    let second = third .before .before .before in
+    let first = second .before .before .before in
+    let own = first .before .before .before in
     let start = parts own .before in
     let folds = parts own .folded .ensures in
     let four = start .pre .ends .four in
@@ -79,5 +88,6 @@ returns c =
 pub measure-ends-spec : {M : Type 1} → statement M
 measure-ends-spec =
     tie.close
-    (tie.spec folded-requires slice-aggregate-amplitudes taken-requires amplitudes-requires slice-aggregate-system-currents system-currents-requires
-    slice-aggregate-system-currents-2 system-currents-requires-2 slice-aggregate-system-currents-3 system-currents-requires-3 readings-by-requires returns)
+    (tie.spec folded-requires slice-aggregate-amplitudes taken-requires amplitudes-requires slice-aggregate-system-currents
+    slice-aggregate-system-currents-2 system-currents-requires slice-aggregate-system-currents-3 slice-aggregate-system-currents-4
+    system-currents-requires-2 slice-aggregate-system-currents-5 slice-aggregate-system-currents-6 system-currents-requires-3 readings-by-requires returns)

@@ -28,9 +28,12 @@ amplitudes-requires c κs =
 slice-aggregate-system-currents : tie.Need-slice-aggregate-system-currents
 slice-aggregate-system-currents c = search needs
 
+slice-aggregate-system-currents-2 : tie.Need-slice-aggregate-system-currents-2
+slice-aggregate-system-currents-2 c = search needs
+
 system-currents-requires : tie.Need-system-currents-requires
 system-currents-requires c κs =
-    let own = c .before in
+    let own = c .before .before in
     let parts = own .before .before .before in
     let pre = parts .before .pre in
     let like = parts .folded .ensures .like in
@@ -44,7 +47,7 @@ starts-requires c κs = search needs
 returns : tie.Need-returns
 unfolding currentsOf
 returns c =
-    let parts = c .before .before .before .before .before .before in
+    let parts = c .before .before .before .before .before .before .before in
     let v = parts .before .args .v in
     let pre = parts .before .pre in
     let are = c .before .system-currents .ensures ∙ currents-are (parts .folded .ensures) _ (pre .system) _ (pre .measurable .ends .four) in
@@ -53,5 +56,5 @@ returns c =
 pub started-spec : {M : Type 1} → statement M
 started-spec =
     tie.close
-    (tie.spec folded-requires slice-aggregate-amplitudes taken-requires amplitudes-requires slice-aggregate-system-currents system-currents-requires
-    starts-requires returns)
+    (tie.spec folded-requires slice-aggregate-amplitudes taken-requires amplitudes-requires slice-aggregate-system-currents
+    slice-aggregate-system-currents-2 system-currents-requires starts-requires returns)

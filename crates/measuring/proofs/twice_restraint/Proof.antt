@@ -7,6 +7,7 @@ use Prim.Native.Nat.{ℕ, _+_, _≤_}
 use native.Mathlib.Omega.{arith}
 use lib.Dec.{eqb}
 use lib.IntN.{ℤ, _-ℤ_}
+use lib.ListN.{getD}
 use mir.Syntax.{w32}
 use mir.Val.{toZ, ofZ}
 use Rattle.integer.specs.Within.{_within_}
@@ -32,7 +33,7 @@ between-requires-4 c κs = search needs
 -- the four parts of end 0 minus end 1, as read
 module _ (c : tie.After-between4) where
   abbrev start : tie.Start
-  start = c .before .before .before .before .before
+  start = c .before .before .before .before .before .before
 
   abbrev g : ℕ → ℤ
   g p = let a = start .args in partAt (a .f .now) p 0 (a .y) -ℤ partAt (a .f .now) p 1 (a .y)
@@ -59,14 +60,17 @@ returns c =
 
 -- with three or four ends: what is known of the four places
 module _ (c : tie.Else1) where
-  three : 3 ≤ c .before .args .ends
-  three = omega (arith, c .before .pre .over .ends .two, c .if1 .left)
+  three : 3 ≤ c .before .before .args .ends
+  three = omega (arith, c .before .before .pre .over .ends .two, c .if1 .left)
+
+  fits : (i : ℕ) → getD (c .before .before .args .a .now) i 0 ≤ 32000000
+  fits = c .before .before .pre .ends three .small
 
 mul-result : tie.Need-mul-result
 mul-result c = search needs
 
-array-read-result : tie.Need-array-read-result
-array-read-result c = search needs
+shared-slice-read-result : tie.Need-shared-slice-read-result
+shared-slice-read-result c = search needs
 
 add-result : tie.Need-add-result
 add-result c = search needs
@@ -74,14 +78,14 @@ add-result c = search needs
 mul-result-2 : tie.Need-mul-result-2
 mul-result-2 c = search needs
 
-array-read-result-2 : tie.Need-array-read-result-2
-array-read-result-2 c = search needs
+shared-slice-read-result-2 : tie.Need-shared-slice-read-result-2
+shared-slice-read-result-2 c = search needs
 
 add-result-2 : tie.Need-add-result-2
 add-result-2 c =
-    let y = c .before .args .y in
-    let fits = c .before .pre .ends (three c) .small in
-    omega (arith, fits y, fits (3 + y), fits (6 + y), fits (9 + y))
+    let e = c .before .before in
+    let y = e .before .before .args .y in
+    omega (arith, fits e y, fits e (3 + y), fits e (6 + y), fits e (9 + y))
 
 add-result-3 : tie.Need-add-result-3
 add-result-3 c = search needs
@@ -89,14 +93,14 @@ add-result-3 c = search needs
 mul-result-3 : tie.Need-mul-result-3
 mul-result-3 c = search needs
 
-array-read-result-3 : tie.Need-array-read-result-3
-array-read-result-3 c = search needs
+shared-slice-read-result-3 : tie.Need-shared-slice-read-result-3
+shared-slice-read-result-3 c = search needs
 
 add-result-4 : tie.Need-add-result-4
 add-result-4 c =
-    let y = c .before .args .y in
-    let fits = c .before .pre .ends (three c) .small in
-    omega (arith, fits y, fits (3 + y), fits (6 + y), fits (9 + y))
+    let e = c .before .before .before in
+    let y = e .before .before .args .y in
+    omega (arith, fits e y, fits e (3 + y), fits e (6 + y), fits e (9 + y))
 
 add-result-5 : tie.Need-add-result-5
 add-result-5 c = search needs
@@ -104,21 +108,24 @@ add-result-5 c = search needs
 mul-result-4 : tie.Need-mul-result-4
 mul-result-4 c = search needs
 
-array-read-result-4 : tie.Need-array-read-result-4
-array-read-result-4 c = search needs
+shared-slice-read-result-4 : tie.Need-shared-slice-read-result-4
+shared-slice-read-result-4 c = search needs
 
 add-result-6 : tie.Need-add-result-6
 add-result-6 c =
-    let y = c .before .args .y in
-    let fits = c .before .pre .ends (three c) .small in
-    omega (arith, fits y, fits (3 + y), fits (6 + y), fits (9 + y))
+    let e = c .before .before .before .before in
+    let y = e .before .before .args .y in
+    omega (arith, fits e y, fits e (3 + y), fits e (6 + y), fits e (9 + y))
 
 returns-2 : tie.Need-returns-2
-returns-2 c = restraint-by-ends (c .before .pre .ends (three c)) (three c) (c .before .pre .over .ends .four)
+returns-2 c =
+    let e = c .before .before .before .before in
+    let pre = e .before .before .pre in
+    restraint-by-ends (pre .ends (three e)) (three e) (pre .over .ends .four)
 
 pub twice-restraint-spec : {M : Type 1} → statement M
 twice-restraint-spec =
     tie.close
-    (tie.spec between-requires between-requires-2 between-requires-3 between-requires-4 amplitude-requires returns mul-result array-read-result add-result
-    mul-result-2 array-read-result-2 add-result-2 add-result-3 mul-result-3 array-read-result-3 add-result-4 add-result-5 mul-result-4 array-read-result-4
+    (tie.spec between-requires between-requires-2 between-requires-3 between-requires-4 amplitude-requires returns mul-result shared-slice-read-result add-result
+    mul-result-2 shared-slice-read-result-2 add-result-2 add-result-3 mul-result-3 shared-slice-read-result-3 add-result-4 add-result-5 mul-result-4 shared-slice-read-result-4
     add-result-6 returns-2)
