@@ -5,21 +5,21 @@ use mathlib.Core.List.{List, [], _∷_, map}
 use Prim.Native.Nat.{ℕ}
 use lib.ListN.{replicate}
 use Rattle.inverse_time.specs.declared.Timer.{Timer}
-use Rattle.inverse_time.specs.Curves.{veryInverse, extremelyInverse, entry}
+use Rattle.inverse_time.specs.Curves.{curveOf, veryInverse, extremelyInverse, entry}
 use Rattle.inverse_time.specs.Timers.{multiple, growth, sumAfter, timerAfter, idle}
 use Rattle.inverse_time.specs.Rows.{afterSets}
 
 numbers : List (ℕ × ℕ)
 numbers =
-    -- entries: 81,000 / 1, / 10, / 90, / 190, and 4,800,000 / 21, / 300, / 9,900, / 39,900, rounded up
-    (entry veryInverse 11, 81000)
-    ∷ (entry veryInverse 20, 8100)
-    ∷ (entry veryInverse 100, 900)
-    ∷ (entry veryInverse 200, 427)
-    ∷ (entry extremelyInverse 11, 228572)
-    ∷ (entry extremelyInverse 20, 16000)
-    ∷ (entry extremelyInverse 100, 485)
-    ∷ (entry extremelyInverse 200, 121)
+    -- entries, by byte 76: 81,000 / 1, / 10, / 90, / 190, and 4,800,000 / 21, / 300, / 9,900, / 39,900, rounded up
+    (entry (curveOf 1) 11, 81000)
+    ∷ (entry (curveOf 1) 20, 8100)
+    ∷ (entry (curveOf 1) 100, 900)
+    ∷ (entry (curveOf 1) 200, 427)
+    ∷ (entry (curveOf 2) 11, 228572)
+    ∷ (entry (curveOf 2) 20, 16000)
+    ∷ (entry (curveOf 2) 100, 485)
+    ∷ (entry (curveOf 2) 200, 121)
     -- j at pick-up 200, up to 200
     ∷ (multiple 200 219, 10)
     ∷ (multiple 200 220, 11)
