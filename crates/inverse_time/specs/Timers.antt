@@ -1,5 +1,4 @@
 -- The inverse-time element of an end, at a measured set (document 02, card 6).
-use mathlib.Core.Path.{_≡_}
 use mathlib.Core.Bool.{false, _||_, cond}
 use Prim.Native.Nat.{ℕ, _+_, _*_, _/_, _≤_, min}
 use lib.Dec.{ltb, eqb}

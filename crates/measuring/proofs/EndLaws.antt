@@ -53,7 +53,7 @@ module _ {f : List ℤ} {first step n : ℕ} where
       other : (i : ℕ) → i ≢ j → getD (set a j x) i 0 ≡ getD a i 0
       other i d = getD-set-other a j i x 0 d
 
-      -- of the places that are stepped on, the one before the next is this
+      -- a place that was stepped on by now, and is not this one, came before it
       below : (i k : ℕ) → i ≡ first + k * step → i < j + step → i ≢ j → i < j
       below i k s m d = by (ltb i j) (ltb→lt i j) (nltb→le i j)
         where

@@ -2,16 +2,16 @@
 use mathlib.Core.Path.{_≡_, refl, sym, subst}
 use mathlib.Core.Bool.{Bool, true, false, not, _&&_, cond, and-false}
 use mathlib.Core.List.{List}
-use Prim.Native.Nat.{ℕ, zero, suc, _+_, _≤_, _<_, min}
+use Prim.Native.Nat.{ℕ, zero, suc, _≤_, _<_}
 use native.Mathlib.Nat.{max-le}
 use native.Mathlib.Omega.{arith}
 use lib.Dec.{T, ltb, leb, eqb, leb→le, le→leb}
-use borrow.Author.Tests.{ltb-true, lt-ltb, ne-eqb}
+use borrow.Author.Tests.{ltb-true, ne-eqb}
 use Rattle.lists.specs.Tests.{hold, none, _&_}
 use Rattle.lists.proofs.TestLaws.{hold-at, hold-of, is-true}
 use Rattle.overcurrent.specs.declared.Backup.{Backup}
 use Rattle.inverse_time.specs.declared.Timer.{Timer}
-use Rattle.inverse_time.specs.Curves.{Curve, curveOf}
+use Rattle.inverse_time.specs.Curves.{curveOf}
 use Rattle.inverse_time.specs.Timers.{multiple, mostSum, timerAfter, idle, TimerInput}
 use Rattle.inverse_time.proofs.TimerLaws.{sum-stays-within}
 use Rattle.overcurrent.specs.Ends.{timerOf, perEnd, timed, backupAfter, sumsWithin, largestIn, BackupInput}

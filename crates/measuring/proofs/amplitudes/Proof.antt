@@ -2,7 +2,7 @@
 -- amplitudes. The measure is what is left of the numbers.
 use borrow.Author.Needs.{needs}
 use mathlib.Core.Path.{_≡_, refl}
-use Prim.Native.Nat.{ℕ, _+_, _*_, _-_, _≤_}
+use Prim.Native.Nat.{ℕ, _+_, _*_, _-_}
 use native.Mathlib.Omega.{arith}
 use Rattle.lists.specs.Lists.{upTo}
 use Rattle.lists.proofs.Fill.{each-place}
