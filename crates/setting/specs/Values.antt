@@ -130,15 +130,19 @@ count t (a ∷ l) = cond (t a) 1 0 + count t l
 unfoldable pub factorsLow : Setting → Bool
 factorsLow v = ltb (count (leZ (pos 32768)) (factors v)) 2
 
--- ---- the refusals 4 to 7 of values whose fields are `fs`
+-- ---- the refusals of values whose fields are `fs`
 
+-- 4 and 5
+abbrev pub fieldRows : List Field → Setting → List Row
+fieldRows fs v = (4 when not (between 2 4 (v .ends))) ∷ (5 at lowest fs when not (allRight fs)) ∷ []
+
+-- 6 and 7
+abbrev pub factorRows : Setting → List Row
+factorRows v = (6 when factorHigh v) ∷ (7 when factorsLow v) ∷ []
+
+-- 4 to 7
 unfoldable pub valueRows : List Field → Setting → List Row
-valueRows fs v =
-    (4 when not (between 2 4 (v .ends)))
-    ∷ (5 at lowest fs when not (allRight fs))
-    ∷ (6 when factorHigh v)
-    ∷ (7 when factorsLow v)
-    ∷ []
+valueRows fs v = fieldRows fs v ++ factorRows v
 
 -- the setting writer, before 13: 4 to 7
 abbrev pub storeRows : Setting → List Row
