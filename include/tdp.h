@@ -2,7 +2,7 @@
  *
  * Link with libhost.a, which `rt staticlib host` writes to target/staticlib/ (x86-64 Linux); nothing else is needed. The calls keep no state,
  * take no memory and write to none of what is handed to them. Any bytes may be handed over, of any length; a length of 0 may go with a null
- * pointer. Both calls always return. The numbers 1 to 14 are the relay's refusals:
+ * pointer. Both calls always return. The numbers 1 to 14 and 17 are the relay's refusals:
  *
  *    1  a block is not 512 bytes             8  a sample block holds more than 21 sets
  *    2  the check is wrong                   9  a byte of a sample block that must be zero is not
@@ -11,6 +11,7 @@
  *    5  a field is outside its rule         12  the relay record is not admissible (not met by these calls)
  *    6  a factor is above 16                13  a buffer is too short (not met by these calls)
  *    7  the second largest is below 0.5     14  a set is not 12 numbers (not met by these calls)
+ *                                           17  m2 is less than m1: no relay is started (tdp_measure)
  */
 #ifndef TDP_H
 #define TDP_H
@@ -22,12 +23,14 @@
 extern "C" {
 #endif
 
-/* Reads a setting block of `length` bytes: 0 if a relay accepts it, else the number of the first refusal, 1 to 7. */
+/* Reads a setting block of `length` bytes: 0, or the number of the first refusal, 1 to 7. A block whose m2 is less than m1 answers 0 as well: it can
+ * be stored, shown and written back; only the start of a relay declines it, with 17. To ask whether a relay can be started on a block, hand it to
+ * tdp_measure with no sample block: the answer is the setting's refusal, or 1 for the block that is not there. */
 uint32_t tdp_read_setting(const uint8_t *block, size_t length);
 
 /* Starts a fresh relay on a setting block and measures the sets of one sample block in turn: 100 plus the sum of 1, 2, 4 for the systems
- * (phases A, B, C) whose trip is latched after the last set, or the number of the first refusal: of the setting block, then of the sample
- * block, then of each set. The answer is the differential element's; the overcurrent elements that bytes 74 to 76 of a setting turn on do not
+ * (phases A, B, C) whose trip is latched after the last set, or the number of the first refusal: of the setting block, 1 to 7, then 17, then of
+ * the sample block, then of each set. The answer is the differential element's; the overcurrent elements that bytes 74 to 76 of a setting turn on do not
  * show in it. */
 uint32_t tdp_measure(const uint8_t *setting, size_t setting_length, const uint8_t *samples, size_t samples_length);
 

@@ -85,9 +85,10 @@ static enum refusal bench_run(FILE *to, const uint8_t *bytes, size_t length)
     struct relay relay;
     enum refusal refusal = read_setting(bytes, part, &s, &offset);
 
+    if (refusal == ACCEPTED)
+        refusal = relay_start(&s, &relay, &offset);
     if (refusal != ACCEPTED)
         return print_refused(to, refusal);
-    relay_start(&s, &relay, &offset);
     fprintf(to, "set state D1 D2 D3 trip\n");
     for (size_t at = BLOCK_BYTES; refusal == ACCEPTED && at < length; at += part) {
         part = length - at < BLOCK_BYTES ? length - at : BLOCK_BYTES;
@@ -328,6 +329,69 @@ static void unloaded(struct stream *x, int wanted)
     add_sets(x, list + BLOCK_NUMBERS, BLOCK_SETS);
 }
 
+/* A setting that is refused, and m2 one below m1 as well (02, card 7); a sound sample
+ * block follows. */
+static void falling(struct stream *x, int wanted)
+{
+    refused_setting(x, wanted);
+    x->bytes[64] = (uint8_t)(x->bytes[66] + 1);
+    seal_block(x->bytes);
+}
+
+/* Such slopes alone, and nothing behind them. */
+static void falling_alone(struct stream *x, int wanted)
+{
+    falling(x, wanted);
+    x->length = BLOCK_BYTES;
+}
+
+/* The same, and half a sample block. */
+static void falling_half(struct stream *x, int wanted)
+{
+    falling(x, wanted);
+    x->length -= BLOCK_BYTES / 2;
+}
+
+/* The same, and a sample block whose check is wrong. */
+static void falling_check(struct stream *x, int wanted)
+{
+    falling(x, wanted);
+    x->bytes[BLOCK_BYTES + 100] ^= 1;
+}
+
+/* The same, and a sample block of another mark and 22 sets, with a byte that must be
+ * zero. */
+static void falling_broken(struct stream *x, int wanted)
+{
+    uint8_t *block = x->bytes + BLOCK_BYTES;
+
+    falling(x, wanted);
+    block[0] = 0x43;
+    block[1] = 22;
+    block[2] = 1;
+    seal_block(block);
+}
+
+/* The same, and a set that 10 declines. */
+static void falling_set(struct stream *x, int wanted)
+{
+    falling(x, wanted);
+    x->bytes[BLOCK_BYTES + 5] = 0x7F;
+    seal_block(x->bytes + BLOCK_BYTES);
+}
+
+/* Slopes that are the same, which a relay starts on. */
+static void same_slopes(struct stream *x, int wanted)
+{
+    int16_t list[BLOCK_NUMBERS];
+
+    (void)wanted;
+    add_start(x);
+    add_more(x, list);
+    x->bytes[64] = x->bytes[66];
+    seal_block(x->bytes);
+}
+
 /* Nothing at all, or a setting alone. */
 static void nothing(struct stream *x, int wanted)
 {
@@ -353,8 +417,9 @@ static void damage(struct draw *d, uint8_t *block)
 }
 
 /* A setting block: three of four sound, in others the factors past a limit,
- * damage, or a field one past its range. */
-static void draw_setting_block(struct draw *d, struct setting *s, uint8_t *block)
+ * damage, or a field one past its range. Slopes fall where they are to. */
+static void draw_setting_block(struct draw *d, int fall, struct setting *s,
+                               uint8_t *block)
 {
     const struct field *f = &FIELD[draw_from(d, 0, PLAIN_FIELDS - 1)];
     int64_t kind = draw_from(d, 0, 11);
@@ -364,6 +429,8 @@ static void draw_setting_block(struct draw *d, struct setting *s, uint8_t *block
     s->confirm = (uint8_t)draw_from(d, 1, 4);
     while (kind == 0 && setting_refusal(s, &offset) == ACCEPTED)
         draw_wide_setting(d, s);
+    if (fall)
+        draw_falling(d, s);
     lay_setting(s, block);
     if (kind == 1)
         damage(d, block);
@@ -392,7 +459,7 @@ static void draw_sample_block(struct draw *d, const struct setting *s,
 }
 
 /* Stream number i: a setting block and up to eight sample blocks; two of five
- * end within a block. */
+ * end within a block. In one of four, slopes fall. */
 static void drawn(struct stream *x, size_t i)
 {
     struct draw d = {0xBE7C4 + 0x9E3779B97F4A7C15ULL * i};
@@ -400,7 +467,7 @@ static void drawn(struct stream *x, size_t i)
     struct wave wave;
     int64_t blocks = draw_from(&d, 0, 8);
 
-    draw_setting_block(&d, &s, next_block(x));
+    draw_setting_block(&d, i % 4 == 1, &s, next_block(x));
     for (int64_t k = 0; k < blocks; k++) {
         if (k % 2 == 0)
             draw_wave(&d, &s, draw_spread(&d, 400, 40000), 0, &wave);
@@ -414,7 +481,8 @@ static void drawn(struct stream *x, size_t i)
 static int tell_drawn(void)
 {
     static struct stream x;
-    unsigned ends[LIST_WRONG + 1] = {0};
+    static const uint8_t met[] = {1, 2, 3, 4, 5, 6, 7, 8, 9, 10, 11, 17};
+    unsigned ends[SLOPES_FALL + 1] = {0};
     FILE *nowhere = fopen("/dev/null", "w");
     int all = nowhere != NULL;
 
@@ -426,9 +494,9 @@ static int tell_drawn(void)
     if (nowhere != NULL)
         fclose(nowhere);
     printf("bench: %d streams drawn, not refused %u, refused", DRAWN, ends[0]);
-    for (size_t i = BLOCK_LENGTH; i <= UNUSED_END_WRONG; i++) {
-        printf(" %zu:%u", i, ends[i]);
-        all &= ends[i] != 0;
+    for (size_t i = 0; i < sizeof met; i++) {
+        printf(" %u:%u", met[i], ends[met[i]]);
+        all &= ends[met[i]] != 0;
     }
     printf("\n");
     return all;
@@ -467,6 +535,18 @@ static const struct {
     {"overcurrent", overcurrent, 0},
     {"largest", largest, 0},
     {"unloaded", unloaded, 0},
+    {"falling-1", falling, 1},
+    {"falling-4", falling, 4},
+    {"falling-5", falling, 5},
+    {"falling-6", falling, 6},
+    {"falling-7", falling, 7},
+    {"falling-17", falling, 17},
+    {"falling-alone", falling_alone, 17},
+    {"falling-half", falling_half, 17},
+    {"falling-check", falling_check, 17},
+    {"falling-broken", falling_broken, 17},
+    {"falling-set", falling_set, 17},
+    {"same-slopes", same_slopes, 0},
 };
 #define CASES (sizeof CASE / sizeof CASE[0])
 

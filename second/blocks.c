@@ -16,12 +16,13 @@ struct trial {
     size_t length;
 };
 
-/* A sound block that both readers accept, of each curve. */
+/* A sound block that both readers accept, of each curve; slopes fall in some tenths,
+ * here and below, which a reader doesn't mind (02, card 7). */
 static void sound(struct draw *d, struct trial *t)
 {
     struct setting s;
 
-    draw_setting(d, (uint8_t)draw_from(d, 2, 4), &s);
+    draw_any_setting(d, (uint8_t)draw_from(d, 2, 4), &s);
     draw_overcurrent(d, (uint8_t)draw_from(d, 0, CURVES), &s);
     lay_setting(&s, t->bytes);
 }
@@ -46,7 +47,7 @@ static void factor_edge(struct draw *d, struct trial *t)
     struct setting s;
     size_t z;
 
-    draw_setting(d, (uint8_t)draw_from(d, 2, 4), &s);
+    draw_any_setting(d, (uint8_t)draw_from(d, 2, 4), &s);
     z = (size_t)draw_from(d, 0, s.ends - 1);
     if (aim <= FACTOR_SECOND_LOWEST)
         for (size_t i = 0; i < s.ends; i++)
@@ -203,7 +204,7 @@ int main(void)
 {
     static struct trial t;
     struct draw d = {0xB10C5EED};
-    unsigned count[8] = {0}, differ = 0;
+    unsigned count[8] = {0}, falling[8] = {0}, same = 0, differ = 0;
 
     for (size_t i = 0; i < BLOCKS; i++) {
         struct setting s;
@@ -213,12 +214,18 @@ int main(void)
         build(&d, i, &t);
         ours = tdp_read_setting(t.bytes, t.length);
         second = read_setting(t.bytes, t.length, &s, &offset);
+        take_setting(t.bytes, &s);
         count[second]++;
+        falling[second] += s.slope2 < s.slope1;
+        same += second == ACCEPTED && s.slope2 == s.slope1;
         if (ours != second && differ++ < SHOWN)
             printf("blocks: block %zu, tdp %u, second %u\n", i, ours, second);
     }
     printf("blocks: %u tried, %u accepted, refused 1:%u 2:%u 3:%u 4:%u 5:%u 6:%u "
            "7:%u, %u differ\n", BLOCKS, count[0], count[1], count[2], count[3],
            count[4], count[5], count[6], count[7], differ);
-    return differ != 0;
+    printf("blocks: slopes that fall: %u accepted, refused 1:%u 2:%u 3:%u 4:%u 5:%u "
+           "6:%u 7:%u; slopes the same: %u accepted\n", falling[0], falling[1],
+           falling[2], falling[3], falling[4], falling[5], falling[6], falling[7], same);
+    return differ != 0 || falling[0] == 0 || same == 0;
 }

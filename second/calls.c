@@ -10,13 +10,14 @@
  * printed. A begin block starts a relay on the setting values that the record
  * holds, and writes them to a buffer of 600 bytes and then to one of 511: three
  * lines, `start N`, `write N` and `short N`; the record stays as it is. A setting
- * block that is refused leaves no relay, and what comes then is passed over up to
- * the next setting block. Where setting, start or writer answer 5, a space and the
- * offset come behind it. A cycle block holds twelve sets of two bytes a number from
- * byte 4 on, and in bytes 292 to 295 how many sample calls it makes: they go through
- * these sets over and over, and their lines are short: of a measured set `H`, its
- * overcurrent trips as one number, and the four sums. Some records come once more
- * with every sample negated: the answers must be the same. */
+ * block that is refused, by its reader or by the start on what is read, leaves no
+ * relay, and what comes then is passed over up to the next setting block. Where
+ * setting, start or writer answer 5, a space and the offset come behind it. A cycle
+ * block holds twelve sets of two bytes a number from byte 4 on, and in bytes 292 to
+ * 295 how many sample calls it makes: they go through these sets over and over, and
+ * their lines are short: of a measured set `H`, its overcurrent trips as one number,
+ * and the four sums. Some records come once more with every sample negated: the
+ * answers must be the same. */
 #include "parts.h"
 
 #include <stdarg.h>
@@ -36,6 +37,7 @@
 #define COMMON 24           /* records of common blocking, with a draw of their own */
 #define OVER 40             /* records of overcurrent, with a draw of their own */
 #define STEADY 38           /* values of j at which there are runs */
+#define SLOPED 30           /* records of slopes each: values, blocks, calls */
 #define LIMITS (RECORDS + ROUNDS)
 #define FAULTY_FROM (LIMITS + 1 + WATCHED)
 #define VALUES_FROM (FAULTY_FROM + FAULTY)
@@ -43,7 +45,8 @@
 #define OVER_FROM (COMMON_FROM + COMMON)
 #define RUNS_FROM (OVER_FROM + OVER)
 #define LONG_FROM (RUNS_FROM + CURVES * STEADY)
-#define ALL_RECORDS (LONG_FROM + CURVES)
+#define SLOPES_FROM (LONG_FROM + CURVES)
+#define ALL_RECORDS (SLOPES_FROM + 3 * SLOPED)
 #define MOST_BLOCKS 250
 #define MOST_TEXT 65536     /* that a record's answers take */
 #define TURNED 11           /* one of so many records of calls comes turned too */
@@ -92,8 +95,8 @@ struct outcome {
 /* Calls by what is asked, and what may be wrong with a record. */
 enum asked { SOUND_SET, UNSOUND_SET, NO_SET, RESET, ASKED };
 enum fault {
-    NONE, BREAKS_4, BREAKS_5, BREAKS_6, BREAKS_7, FILL, NUMBER, COUNTER, PAGE, SUM,
-    FAULTS
+    NONE, BREAKS_4, BREAKS_5, BREAKS_6, BREAKS_7, BREAKS_17, FILL, NUMBER, COUNTER,
+    PAGE, SUM, FAULTS
 };
 
 /* What may be wrong with a page call, as bits: refusals 15, 16 and 12. */
@@ -136,7 +139,8 @@ static struct {
 } over;
 
 /* A setting is judged in a block, or by its values alone. For both, the fields of
- * refusal 5 in block order; values have no spare bytes. */
+ * refusal 5 in block order; values have no spare bytes. 17 comes behind 7 in a block,
+ * which is read first, and between 5 and 6 in values. */
 enum judged { IN_BLOCK, IN_VALUES, JUDGED };
 static const size_t places[JUDGED] = {PLACES, NUMBERS};
 static struct field place[JUDGED][PLACES];
@@ -148,9 +152,21 @@ static struct field place[JUDGED][PLACES];
  * 0, X at another, or the curve, for 2, 3 and 4 ends; answers 5 where 6 or 7 would
  * come otherwise; and answers that are not right. */
 static struct {
-    unsigned refused[8], at_once[MOST_FAULTS + 1], first[3][PLACES], pair[3][PLACES];
+    unsigned refused[SLOPES_FALL + 1], at_once[MOST_FAULTS + 1];
+    unsigned first[3][PLACES], pair[3][PLACES];
     unsigned lone[2][24], over[3][3], factors[2], wrong;
 } faulty[JUDGED];
+
+/* What a run has of slopes that fall: settings by refusal, judged in a block and by
+ * their values; starts refused with 17 by what the writer answers; settings with both
+ * slopes the same that start; changes of one slope in a record: to fall, the same,
+ * and others; refusals 12 by such slopes: of samples that are sound, and that 10, 11
+ * and 14 would decline too, of resets, reads and writes; and page calls on such a
+ * record that meet 15 (read, write) and 16 before. */
+static struct {
+    unsigned judged[JUDGED][SLOPES_FALL + 1], written[FACTOR_TOO_LOW + 1];
+    unsigned same[JUDGED], changes[3], samples[4], others[3], pages[3];
+} slopes;
 
 /* How fields are made wrong: one below the range, one above, all ones, by one
  * byte, or by one byte of a zero; which byte that one is; faults beside refusals
@@ -476,6 +492,13 @@ static void add_cycle(struct record *r, const int16_t *list, size_t calls)
     r->calls += calls;
 }
 
+/* A list block of these numbers. */
+static void add_numbers(struct record *r, const int16_t *list, size_t n)
+{
+    lay_list(list, n, next_block(r));
+    r->calls++;
+}
+
 /* A list block; of twelve numbers it holds a set of the scene. */
 static void add_list(struct draw *d, struct scene *scene, struct record *r)
 {
@@ -491,8 +514,7 @@ static void add_list(struct draw *d, struct scene *scene, struct record *r)
         scene_set(d, scene, list);
         maybe_spoil(d, &scene->setting, list);
     }
-    lay_list(list, n, next_block(r));
-    r->calls++;
+    add_numbers(r, list, n);
 }
 
 /* A reset call. */
@@ -824,12 +846,15 @@ static void count_common(const struct relay *before, const struct answer *a)
 }
 
 /* What makes a record inadmissible, by document 01's row for refusal 12 and
- * document 02, cards 2 and 6. */
+ * document 02, cards 2, 6 and 7. */
 static enum fault record_fault(const struct relay *relay)
 {
     size_t offset;
     enum refusal refusal = setting_refusal(&relay->setting, &offset);
+    int fields = refusal != ENDS_WRONG && refusal != FIELD_WRONG;
 
+    if (fields && relay->setting.slope1 > relay->setting.slope2)
+        return BREAKS_17;
     if (refusal != ACCEPTED)
         return (enum fault)(BREAKS_4 + refusal - ENDS_WRONG);
     if (relay->fill > WINDOW_SETS)
@@ -946,6 +971,20 @@ static enum asked asked(const struct relay *relay, const int16_t *list, size_t n
     return SOUND_SET;
 }
 
+/* Counts a sample call that slopes decline. */
+static void count_sloped(const struct relay *relay, const int16_t *list, size_t n)
+{
+    size_t kind = n != SET_NUMBERS ? 3 : 0;
+
+    if (heard == NULL || record_fault(relay) != BREAKS_17)
+        return;
+    for (size_t i = 0; kind == 0 && i < SET_NUMBERS; i++)
+        kind = list[i] > SAMPLE_LIMIT || list[i] < -SAMPLE_LIMIT;
+    for (size_t i = 3u * relay->setting.ends; kind == 0 && i < SET_NUMBERS; i++)
+        kind = list[i] != 0 ? 2 : 0;
+    slopes.samples[kind]++;
+}
+
 /* The sums of all ends, and the line's end. */
 static void say_sums(const struct relay *relay)
 {
@@ -983,6 +1022,7 @@ static int sample_call(struct relay *relay, const int16_t *list, size_t n)
     int quiet = (relay->flags & (NEW_START | NEW_TRIP)) == 0;
 
     count_answer(refusal, asked(relay, list, n));
+    count_sloped(relay, list, n);
     count_over(&before, relay, refusal, a.filling);
     count_flags(&before, relay, refusal);
     if (refusal != ACCEPTED) {
@@ -1078,6 +1118,7 @@ static int reset_call(struct relay *relay)
     count_answer(refusal, RESET);
     if (refusal != ACCEPTED) {
         over.declined[1] += heard != NULL && record_fault(relay) == SUM;
+        slopes.others[0] += heard != NULL && record_fault(relay) == BREAKS_17;
         say("refused %d\n", refusal);
         return 1;
     }
@@ -1151,6 +1192,17 @@ static void count_accepted(const struct page_call *call, uint8_t byte,
         count_reset(before, 1);
 }
 
+/* Counts a page call on a record whose slopes fall. */
+static void count_page_sloped(const struct relay *relay, const struct page_call *call,
+                              enum refusal refusal)
+{
+    if (record_fault(relay) != BREAKS_17)
+        return;
+    slopes.others[1 + call->write] += refusal == RECORD_WRONG;
+    slopes.pages[call->write] += refusal == PAGE_BEYOND;
+    slopes.pages[2] += refusal == BYTE_FIXED;
+}
+
 /* One read or write and its line. */
 static void register_call(struct relay *relay, const struct page_call *call)
 {
@@ -1172,6 +1224,7 @@ static void register_call(struct relay *relay, const struct page_call *call)
     paged.calls[call->write][faults]++;
     paged.wrong += refusal != first_fault(faults);
     over.declined[2] += refusal == RECORD_WRONG && record_fault(relay) == SUM;
+    count_page_sloped(relay, call, refusal);
     if (refusal == ACCEPTED)
         count_accepted(call, byte, &before, relay);
 }
@@ -1293,6 +1346,26 @@ static void count_wrong(enum judged judged, const uint8_t *block, size_t n, size
         faulty[judged].factors[factors - FACTOR_TOO_HIGH]++;
 }
 
+/* The sign of m2 less m1 in a block. */
+static int rise(const uint8_t *block)
+{
+    struct setting s;
+
+    take_setting(block, &s);
+    return (s.slope2 > s.slope1) - (s.slope2 < s.slope1);
+}
+
+/* What follows 5 for a setting: 6 and 7 and 17 in a block, 17 and 6 and 7 in
+ * values. */
+static enum refusal later_fault(enum judged judged, const uint8_t *block)
+{
+    enum refusal factors = factor_fault(block);
+
+    if (rise(block) >= 0 || (judged == IN_BLOCK && factors != ACCEPTED))
+        return factors;
+    return SLOPES_FALL;
+}
+
 /* Counts a judged setting by its wrong fields; whether they ask for this answer. */
 static int faults_answered(enum judged judged, const uint8_t *block,
                            enum refusal refusal, size_t offset)
@@ -1309,7 +1382,7 @@ static int faults_answered(enum judged judged, const uint8_t *block,
         last = wrong;
     }
     if (n == 0)
-        return refusal != FIELD_WRONG && offset == 0;
+        return refusal == later_fault(judged, block) && offset == 0;
     count_wrong(judged, block, n, first);
     return refusal == FIELD_WRONG && offset == place[judged][first].at;
 }
@@ -1319,6 +1392,8 @@ static void count_judged(enum judged judged, const uint8_t *block,
                          enum refusal refusal, size_t offset)
 {
     faulty[judged].refused[refusal]++;
+    slopes.judged[judged][refusal] += rise(block) < 0;
+    slopes.same[judged] += refusal == ACCEPTED && rise(block) == 0;
     if (refusal == ACCEPTED || refusal >= FIELD_WRONG)
         faulty[judged].wrong += !faults_answered(judged, block, refusal, offset);
     else
@@ -1349,19 +1424,24 @@ static int setting_call(struct relay *relay, const uint8_t *block, size_t length
     return refusal == ACCEPTED;
 }
 
-/* Counts a begin block by its start. The writer answers like it, but that a
- * buffer can be too short. */
+/* Counts a begin block by its start. The writer answers like it, but that slopes may
+ * fall, and that a buffer can be too short. */
 static void count_begin(const struct setting *s, const enum refusal refusal[3],
                         const size_t offset[3])
 {
-    enum refusal later = refusal[0] == ACCEPTED ? BUFFER_TOO_SHORT : refusal[0];
+    enum refusal write = refusal[0], later;
     uint8_t block[BLOCK_BYTES];
 
     if (heard == NULL)
         return;
     lay_setting(s, block);
     count_judged(IN_VALUES, block, refusal[0], offset[0]);
-    faulty[IN_VALUES].wrong += refusal[1] != refusal[0] || refusal[2] != later ||
+    if (refusal[0] == SLOPES_FALL) {
+        write = factor_fault(block);
+        slopes.written[write]++;
+    }
+    later = write == ACCEPTED ? BUFFER_TOO_SHORT : write;
+    faulty[IN_VALUES].wrong += refusal[1] != write || refusal[2] != later ||
                                offset[1] != offset[0] || offset[2] != offset[0];
 }
 
@@ -1425,6 +1505,20 @@ static void count_page_change(struct change change)
         paged.changed[3 * change.part.which + i] += change.value == value[i];
 }
 
+/* Counts a change of one slope: they fall, are the same, or rise. */
+static void count_slope_change(const struct relay *relay, struct change change,
+                               enum fault fault)
+{
+    const struct setting *s = &relay->setting;
+    uint8_t at = change.part.which;
+
+    if (change.part.kind != SETTING_PART || (at != 64 && at != 66))
+        return;
+    slopes.changes[0] += fault == BREAKS_17;
+    if (fault == NONE)
+        slopes.changes[s->slope1 == s->slope2 ? 1 : 2]++;
+}
+
 /* Some calls and the record printed: all kinds of calls where they are to be
  * refused. */
 static void add_some_calls(struct draw *d, struct scene *scene, struct record *r,
@@ -1454,6 +1548,7 @@ static void add_changed_calls(struct draw *d, struct scene *scene, struct record
     fault = record_fault(relay);
     told.changes[change.part.kind][fault]++;
     count_page_change(change);
+    count_slope_change(relay, change, fault);
     add_some_calls(d, scene, r, fault != NONE);
     follow(r, relay);
     if (fault != NONE || draw_chance(d, 50))
@@ -1825,8 +1920,9 @@ static void add_sound(struct draw *d, size_t i, struct record *r)
     add_reset(r);
 }
 
-/* Record number i of faulty setting blocks, all curves in turn: now and then calls
- * that are passed over, and after each half a sound block. */
+/* Record number i of faulty setting blocks, all curves in turn, and in one of four
+ * with slopes that fall: now and then calls that are passed over, and after each half
+ * a sound block. */
 static void build_faulty(struct draw *d, size_t i, struct record *r)
 {
     struct setting sound[3];
@@ -1834,6 +1930,8 @@ static void build_faulty(struct draw *d, size_t i, struct record *r)
     for (uint8_t e = 0; e < 3; e++) {
         draw_setting(d, 2 + e, &sound[e]);
         draw_overcurrent(d, (uint8_t)(i % 3), &sound[e]);
+        if (i % 4 == 3)
+            draw_falling(d, &sound[e]);
     }
     for (size_t k = 0; k < FAULTY_BLOCKS; k++) {
         lay_faulty(d, FAULTY_BLOCKS * i + k, sound, next_block(r));
@@ -1913,7 +2011,8 @@ static void add_pairs(struct draw *d, unsigned how, struct record *r,
 }
 
 /* Wrong values, none or two to six; beside them, in turn, nothing, E wrong, E
- * another, or the power such that 6 or 7 would come. */
+ * another, or the power such that 6 or 7 would come; and in three of ten slopes that
+ * fall. */
 static void add_unsound(struct draw *d, size_t turn, struct record *r,
                         struct relay *relay)
 {
@@ -1924,12 +2023,15 @@ static void add_unsound(struct draw *d, size_t turn, struct record *r,
                                      {{SETTING_PART, 4}, other_ends},
                                      {{SETTING_PART, 8}, 1},
                                      {{SETTING_PART, 8}, 50000}};
-    struct change change[MOST_FAULTS + 1];
+    struct change change[MOST_FAULTS + 2];
     size_t list[MOST_FAULTS], n = 0;
     size_t wrong = draw_chance(d, 15) ? 0 : (size_t)draw_from(d, 2, MOST_FAULTS);
 
     if (turn % 6 >= 2)
         change[n++] = beside[turn % 6 - 2];
+    if (draw_chance(d, 30))
+        change[n++] = slope_change(&relay->setting,
+                                   (size_t)draw_from(d, 0, FALLING_CHANGES - 1));
     draw_places(d, IN_VALUES, wrong, list);
     for (size_t k = 0; k < wrong; k++)
         change[n++] = wrong_value(d, relay, list[k], (unsigned)draw_from(d, 0, 3));
@@ -1959,6 +2061,230 @@ static void build_values(struct draw *d, size_t i, struct record *r)
             add_unsound(d, turn, r, &relay);
     next_block(r)[0] = PRINT_KIND;
     add_sets(d, &scene, r, 3, 0);
+}
+
+/* ---- Slopes ---- */
+
+#define SLOPE_PLACE 21      /* m1 among the fields of values, m2 the next */
+#define SLOPE_IN_BLOCK 30   /* m1 among those of a block */
+#define BESIDE_VALUES 7     /* faults that values have beside slopes */
+#define BESIDE_BLOCK 10     /* those that a block has */
+
+/* Slopes with room to both sides, so that each of their changes is in range. */
+static void draw_room(struct draw *d, struct setting *s)
+{
+    s->slope1 = (uint16_t)draw_from(d, 13, 140);
+    s->slope2 = (uint16_t)draw_from(d, s->slope1 + 1, 149);
+}
+
+/* A setting of 2, 3 or 4 ends and each curve, whose factors and slopes can be moved. */
+static void draw_sloped(struct draw *d, size_t i, struct setting *s)
+{
+    draw_movable(d, (uint8_t)(2 + i % 3), s);
+    draw_overcurrent(d, (uint8_t)((i + i / 3) % 3), s);
+    draw_room(d, s);
+}
+
+/* A relay on the scene's setting, and some sets. */
+static void start_sloped(struct draw *d, struct scene *scene, struct record *r,
+                         struct relay *relay)
+{
+    size_t offset;
+
+    lay_setting(&scene->setting, next_block(r));
+    relay_start(&scene->setting, relay, &offset);
+    r->followed = 1;
+    add_samples(d, scene, r, 0);
+    follow(r, relay);
+}
+
+/* Fault number kind of values: E, a field before the slopes, m1 above its range, m2
+ * below its own, a field behind them, or the power such that 6 or 7 would come. */
+static struct change beside_slopes(struct draw *d, const struct relay *relay,
+                                   size_t kind)
+{
+    static const uint8_t ends[4] = {0, 1, 5, 255};
+    unsigned how = (unsigned)draw_from(d, 0, 3);
+    size_t before = (size_t)draw_from(d, 0, SLOPE_PLACE - 1);
+    size_t behind = (size_t)draw_from(d, SLOPE_PLACE + 2, NUMBERS - 1);
+
+    switch (kind) {
+    case 0: return (struct change){{SETTING_PART, 4}, ends[how]};
+    case 1: return wrong_value(d, relay, before, how);
+    case 2: return (struct change){{SETTING_PART, 64}, 151 + 1000 * how};
+    case 3: return (struct change){{SETTING_PART, 66}, 9 - 3 * how};
+    case 4: return wrong_value(d, relay, behind, how);
+    case 5: return (struct change){{SETTING_PART, 8}, 1};
+    default: return (struct change){{SETTING_PART, 8}, 50000};
+    }
+}
+
+/* Record number i of slopes in values: a change of one alone, with each fault, and
+ * with each two. */
+static void build_sloped_values(struct draw *d, size_t i, struct record *r)
+{
+    struct scene scene = {.kind = NOISE};
+    struct relay relay;
+
+    draw_sloped(d, i, &scene.setting);
+    start_sloped(d, &scene, r, &relay);
+    for (size_t a = 0; a <= BESIDE_VALUES; a++)
+        for (size_t b = a + (a < BESIDE_VALUES); b <= BESIDE_VALUES; b++) {
+            struct change change[3] = {slope_change(&relay.setting, i / 3)};
+            size_t n = 1;
+
+            if (a < BESIDE_VALUES)
+                change[n++] = beside_slopes(d, &relay, a);
+            if (b < BESIDE_VALUES)
+                change[n++] = beside_slopes(d, &relay, b);
+            add_changed_values(r, &relay, change, n);
+        }
+    next_block(r)[0] = PRINT_KIND;
+    add_sets(d, &scene, r, 3, 0);
+}
+
+/* Makes fault number kind in a block: the mark, E, a field or a spare byte before the
+ * slopes, m1 above its range, m2 below its own, a field behind them, a spare byte, or
+ * the power such that 6 or 7 would come. Number 0, the check, comes later. */
+static void spoil_sloped(struct draw *d, size_t kind, uint8_t *block)
+{
+    static const uint8_t ends[4] = {0, 1, 5, 255};
+    const struct field *before = &place[IN_BLOCK][draw_from(d, 0, SLOPE_IN_BLOCK - 1)];
+    const struct field *behind = &FIELD[draw_from(d, SLOPE_PLACE + 3, FIELDS - 1)];
+    unsigned how = (unsigned)draw_from(d, 0, 3);
+    size_t spare = (size_t)draw_from(d, 77, 509);
+
+    switch (kind) {
+    case 1: block[1 + how % 3] ^= (uint8_t)draw_from(d, 1, 255); break;
+    case 2: block[4] = ends[how]; break;
+    case 3: spoil_field(d, before, how, block); break;
+    case 4: put_field(block, &FIELD[SLOPE_PLACE + 1], 151 + 1000 * how); break;
+    case 5: put_field(block, &FIELD[SLOPE_PLACE + 2], 9 - 3 * how); break;
+    case 6: spoil_field(d, behind, how, block); break;
+    case 7: block[spare] = (uint8_t)draw_from(d, 1, 255); break;
+    case 8: put_field(block, &FIELD[3], 1); break;
+    case 9: put_field(block, &FIELD[3], 50000); break;
+    default: break;
+    }
+}
+
+/* A setting block with two faults, of which the last number is none. */
+static void add_sloped_block(struct draw *d, const struct setting *s, size_t a,
+                             size_t b, struct record *r)
+{
+    uint8_t *block = next_block(r);
+
+    lay_setting(s, block);
+    spoil_sloped(d, a, block);
+    spoil_sloped(d, b, block);
+    seal_block(block);
+    if (a == 0)
+        block[draw_from(d, 1, 511)] ^= (uint8_t)draw_from(d, 1, 254);
+}
+
+/* Record number i of slopes in blocks: a change of one alone, with each fault, and
+ * with each two; and each change alone. Calls follow now and then, and at the end
+ * come the slopes of before. */
+static void build_sloped_blocks(struct draw *d, size_t i, struct record *r)
+{
+    struct scene scene = {.kind = NOISE};
+    struct relay relay, other;
+
+    draw_sloped(d, i, &scene.setting);
+    start_sloped(d, &scene, r, &relay);
+    other = relay;
+    change_part(&other, slope_change(&relay.setting, i / 3));
+    for (size_t a = 0; a <= BESIDE_BLOCK; a++)
+        for (size_t b = a + (a < BESIDE_BLOCK); b <= BESIDE_BLOCK; b++) {
+            add_sloped_block(d, &other.setting, a, b, r);
+            if (draw_chance(d, 15))
+                add_begin(r);
+        }
+    for (size_t k = 0; k <= SLOPE_CHANGES; k++) {
+        other = relay;
+        if (k < SLOPE_CHANGES)
+            change_part(&other, slope_change(&relay.setting, k));
+        lay_setting(&other.setting, next_block(r));
+        add_samples(d, &scene, r, 0);
+        add_page(d, r);
+        add_reset(r);
+        add_begin(r);
+    }
+}
+
+/* Every call on a record as it is: sets that are sound or that 10, 11 and 14 decline,
+ * a reset, reads and writes of the page, in it, past it and of other bytes, a view
+ * and a begin block; and the record printed. */
+static void add_every_call(struct draw *d, struct scene *scene, struct record *r)
+{
+    static const struct page_call call[14] = {
+        {0, 0, 0}, {0, 0, 3},  {0, 0, 5}, {0, 0, 8}, {0, 0, 63},
+        {0, 0, 64}, {0, 0, UINT64_MAX}, {1, 2, 3}, {1, 5, 4}, {1, 1, 7},
+        {1, 1, 0}, {1, 1, 63}, {1, 1, 64}, {1, 1, 4294967299}};
+    static const uint8_t length[4] = {0, 11, 13, 24};
+    int16_t list[2 * SET_NUMBERS] = {0};
+    int64_t unused = 3 * scene->setting.ends;
+
+    add_sets(d, scene, r, 1, 0);
+    if (unused < SET_NUMBERS) {
+        scene_set(d, scene, list);
+        list[draw_from(d, unused, 11)] = (int16_t)draw_from(d, 1, 99);
+        add_numbers(r, list, SET_NUMBERS);
+    }
+    scene_set(d, scene, list);
+    list[draw_from(d, 0, 11)] = draw_chance(d, 50) ? 32001 : -32001;
+    add_numbers(r, list, SET_NUMBERS);
+    add_numbers(r, list, length[draw_from(d, 0, 3)]);
+    add_page_calls(r, call, 14);
+    add_view(r);
+    add_reset(r);
+    add_begin(r);
+    next_block(r)[0] = PRINT_KIND;
+}
+
+/* A change of one slope, every call, and the slope of before. */
+static void add_sloped_calls(struct draw *d, struct scene *scene, struct record *r,
+                             struct relay *relay, size_t i)
+{
+    struct change change = slope_change(&relay->setting, i);
+    struct change back = {change.part, part_value(relay, change.part)};
+    struct relay before = *relay;
+    enum fault fault;
+
+    add_change(r, relay, change);
+    fault = record_fault(relay);
+    told.changes[SETTING_PART][fault]++;
+    count_slope_change(relay, change, fault);
+    add_every_call(d, scene, r);
+    add_change(r, relay, back);
+    if (fault != NONE && !record_same(relay, &before))
+        r->kept = 0;
+    add_sets(d, scene, r, 2, 0);
+    follow(r, relay);
+}
+
+/* Record number i of slopes under every call: each change of one, and both at either
+ * edge of their range. */
+static void build_sloped_calls(struct draw *d, size_t i, struct record *r)
+{
+    static const struct change edge[4] = {{{SETTING_PART, 66}, 150},
+                                          {{SETTING_PART, 64}, 150},
+                                          {{SETTING_PART, 64}, 10},
+                                          {{SETTING_PART, 66}, 10}};
+    struct scene scene;
+    struct relay relay;
+
+    draw_scene(d, i, &scene);
+    draw_overcurrent(d, (uint8_t)(i % 3), &scene.setting);
+    draw_room(d, &scene.setting);
+    start_sloped(d, &scene, r, &relay);
+    for (size_t k = 0; k < SLOPE_CHANGES; k++)
+        add_sloped_calls(d, &scene, r, &relay, (i + k) % SLOPE_CHANGES);
+    for (size_t k = 0; k < 4; k++) {
+        add_change(r, &relay, edge[k]);
+        if (k % 2 == 1)
+            add_every_call(d, &scene, r);
+    }
 }
 
 /* ---- Turned records ---- */
@@ -2013,12 +2339,18 @@ static int turned_alike(const struct outcome *turned, const struct outcome *befo
 /* Record number i: first those of calls alone, each sixth of them on a refused
  * setting; then those with changes, those of sets watched one by one, those of
  * faulty setting blocks and values, those of common blocking, those of overcurrent,
- * and its runs. */
+ * and its runs; and those of slopes. */
 static void build(struct draw *d, size_t i, struct record *r)
 {
     memset(r, 0, sizeof *r);
     r->kept = 1;
-    if (i >= RUNS_FROM)
+    if (i >= SLOPES_FROM + 2 * SLOPED)
+        build_sloped_calls(d, i - SLOPES_FROM - 2 * SLOPED, r);
+    else if (i >= SLOPES_FROM + SLOPED)
+        build_sloped_blocks(d, i - SLOPES_FROM - SLOPED, r);
+    else if (i >= SLOPES_FROM)
+        build_sloped_values(d, i - SLOPES_FROM, r);
+    else if (i >= RUNS_FROM)
         build_run(d, i - RUNS_FROM, r);
     else if (i >= OVER_FROM)
         build_over(d, i - OVER_FROM, r);
@@ -2241,12 +2573,14 @@ static int fields_told(const char *what, enum judged judged)
 /* Tells what the run has of faulty settings; whether all of it is there. */
 static int faults_told(void)
 {
-    const unsigned *r = faulty[IN_VALUES].refused;
-    const unsigned begun[5] = {r[0], r[4], r[5], r[6], r[7]};
+    const unsigned *r = faulty[IN_VALUES].refused, *b = faulty[IN_BLOCK].refused;
+    const unsigned begun[6] = {r[0], r[4], r[5], r[6], r[7], r[17]};
+    const unsigned blocks[9] = {b[0], b[1], b[2], b[3], b[4],
+                                b[5], b[6], b[7], b[17]};
 
     return fields_told("blocks", IN_BLOCK) & fields_told("values", IN_VALUES) &
-           tell("setting blocks (0 to 7)", faulty[IN_BLOCK].refused, 8) &
-           tell("begin blocks (0; 4 to 7)", begun, 5) &
+           tell("setting blocks (0 to 7; 17)", blocks, 9) &
+           tell("begin blocks (0; 4 to 7; 17)", begun, 6) &
            tell("begin blocks passed over", &made.passed, 1) &
            tell("made wrong (below; above; ones; one byte; a zero)", made.how, 5) &
            tell("that one byte, 0 to 3", made.byte, 4) &
@@ -2275,9 +2609,31 @@ static int over_told(void)
            tell("lines of cycle blocks (filling; refused; measured)", over.lines, 3);
 }
 
+/* Tells what the run has of slopes that fall; whether all of it is there. They are in
+ * no setting that starts, nor is a start on their values refused with 6 or 7. */
+static int slopes_told(void)
+{
+    const unsigned *b = slopes.judged[IN_BLOCK], *v = slopes.judged[IN_VALUES];
+    const unsigned *w = slopes.written;
+    const unsigned blocks[7] = {b[2], b[3], b[4], b[5], b[6], b[7], b[17]};
+    const unsigned begun[5] = {v[4], v[5], w[0], w[6], w[7]};
+
+    return (b[0] + v[0] + v[6] + v[7] == 0) &
+           tell("setting blocks whose slopes fall (2 to 7; 17)", blocks, 7) &
+           tell("begin blocks whose slopes fall (4; 5; 17 where 0, 6, 7 are written)",
+                begun, 5) &
+           tell("starts on slopes the same (setting blocks; begin blocks)",
+                slopes.same, 2) &
+           tell("changes of a slope (to fall; the same; rise)", slopes.changes, 3) &
+           tell("samples refused 12 by slopes (sound; 10, 11, 14 too)",
+                slopes.samples, 4) &
+           tell("others refused 12 by slopes (reset; read; write)", slopes.others, 3) &
+           tell("page calls on such slopes (read 15; write 15, 16)", slopes.pages, 3);
+}
+
 /* Tells what the run has; whether every kind of refusal 12 and of change is
  * among it, and turned records that start and latch. A change of the setting can
- * break 4 to 7, or leave a counter above M; one of another part breaks that
+ * break 4 to 7 or 17, or leave a counter above M; one of another part breaks that
  * part's rule. */
 static int all_told(void)
 {
@@ -2285,9 +2641,9 @@ static int all_told(void)
     const unsigned *v = told.changes[NUMBER_PART], *c = told.changes[COUNTER_PART];
     const unsigned *p = told.changes[PAGE_PART];
     const unsigned within[5] = {s[NONE], f[NONE], v[NONE], c[NONE], p[NONE]};
-    const unsigned past[9] = {s[BREAKS_4], s[BREAKS_5], s[BREAKS_6],
-                              s[BREAKS_7], s[COUNTER],  f[FILL],
-                              v[NUMBER],   c[COUNTER],  p[PAGE]};
+    const unsigned past[10] = {s[BREAKS_4], s[BREAKS_5], s[BREAKS_6], s[BREAKS_7],
+                               s[BREAKS_17], s[COUNTER], f[FILL], v[NUMBER],
+                               c[COUNTER], p[PAGE]};
 
     fprintf(stderr, "calls: %u records, %u of healthy banks, %u answers to sample "
             "and reset calls\n", told.records, told.healthy, told.answers);
@@ -2297,8 +2653,8 @@ static int all_told(void)
         return 0;
     return tell("refused 12", told.declined, ASKED) &
            tell("changes within the rules", within, 5) &
-           tell("changes past them", past, 9) & page_calls_told() &
-           page_events_told() & faults_told() & over_told() &
+           tell("changes past them", past, 10) & page_calls_told() &
+           page_events_told() & faults_told() & over_told() & slopes_told() &
            tell("common blocking (01 holds back more; trip there; D at P; all blocked)",
                 told.common, 4);
 }
@@ -2306,6 +2662,7 @@ static int all_told(void)
 int main(int argc, char **argv)
 {
     struct draw d = {0xCA115}, common = {0xC0330}, over_draw = {0x0CE60255};
+    struct draw sloped = {0x510BE};
     int input = argc == 2 && strcmp(argv[1], "input") == 0;
 
     if (!input && (argc != 2 || strcmp(argv[1], "expect") != 0)) {
@@ -2313,12 +2670,17 @@ int main(int argc, char **argv)
         return 2;
     }
     list_places();
-    for (size_t i = 0; i < ALL_RECORDS; i++)
-        if (!put(i < COMMON_FROM ? &d : i < OVER_FROM ? &common : &over_draw, i,
-                 input)) {
+    for (size_t i = 0; i < ALL_RECORDS; i++) {
+        struct draw *own = i < COMMON_FROM   ? &d
+                           : i < OVER_FROM   ? &common
+                           : i < SLOPES_FROM ? &over_draw
+                                             : &sloped;
+
+        if (!put(own, i, input)) {
             fprintf(stderr, "calls: record %zu is not as it must be\n", i);
             return 1;
         }
+    }
     if (!put_short(&d, input) || (!input && !all_told()))
         return 1;
     return fflush(stdout) != 0;

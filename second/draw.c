@@ -163,9 +163,9 @@ static void draw_halfway(struct draw *d, struct setting *s)
     }
 }
 
-/* A setting that a relay starts on. Of three or four ends, all but two may
+/* A setting that is read, with any slopes. Of three or four ends, all but two may
  * have any factor down to zero. */
-void draw_setting(struct draw *d, uint8_t ends, struct setting *s)
+void draw_any_setting(struct draw *d, uint8_t ends, struct setting *s)
 {
     size_t offset;
 
@@ -189,7 +189,22 @@ void draw_setting(struct draw *d, uint8_t ends, struct setting *s)
     } while (setting_refusal(s, &offset) != ACCEPTED);
 }
 
-/* Every field in its range, factors to either side of both limits. */
+/* A setting that a relay starts on: slopes that fall change places, or one of three
+ * times both become the lower. That draws no word more. */
+void draw_setting(struct draw *d, uint8_t ends, struct setting *s)
+{
+    uint16_t m1, m2;
+
+    draw_any_setting(d, ends, s);
+    m1 = s->slope1;
+    m2 = s->slope2;
+    if (m2 >= m1)
+        return;
+    s->slope1 = m2;
+    s->slope2 = (m1 + m2) % 3 == 0 ? m2 : m1;
+}
+
+/* Every field in its range, any slopes, factors to either side of both limits. */
 void draw_wide_setting(struct draw *d, struct setting *s)
 {
     memset(s, 0, sizeof *s);
@@ -226,6 +241,15 @@ void draw_overcurrent(struct draw *d, uint8_t curve, struct setting *s)
     s->overcurrent = 0;
     if (curve != 0)
         s->overcurrent = draw_limit(d, 200, draw_chance(d, 70) ? 800 : 4000);
+}
+
+/* Slopes that fall (02, card 7): m2 one below m1, or anywhere below. */
+void draw_falling(struct draw *d, struct setting *s)
+{
+    s->slope1 = draw_limit(d, 11, 150);
+    s->slope2 = (uint16_t)(s->slope1 - 1);
+    if (draw_chance(d, 60))
+        s->slope2 = draw_limit(d, 10, s->slope2);
 }
 
 /* ---- Waves ---- */

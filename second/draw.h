@@ -31,10 +31,12 @@ uint32_t get_field(const uint8_t *block, const struct field *field);
  * no filter, no blocking. */
 extern const struct setting plain_setting;
 void aim_factor(struct draw *d, uint32_t power, int64_t factor, struct end *end);
+void draw_any_setting(struct draw *d, uint8_t ends, struct setting *s);
 void draw_setting(struct draw *d, uint8_t ends, struct setting *s);
 void draw_wide_setting(struct draw *d, struct setting *s);
 void draw_eighths(struct draw *d, struct setting *s);
 void draw_overcurrent(struct draw *d, uint8_t curve, struct setting *s);
+void draw_falling(struct draw *d, struct setting *s);
 
 /* A current in every phase of every end: fundamental, second and fifth. */
 struct wave {

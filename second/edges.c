@@ -11,7 +11,7 @@
 #include <sys/mman.h>
 #include <unistd.h>
 
-#define PAIRS 200
+#define PAIRS 250
 #define LENGTHS 6
 #define SHOWN 5
 
@@ -27,7 +27,7 @@ struct lent {
     size_t length;
 };
 
-static unsigned tried, differ, count[UNUSED_END_WRONG + 1];
+static unsigned tried, differ, count[SLOPES_FALL + 1];
 
 /* Maps three pages and opens the one in the middle. */
 static int map_page(struct page *p)
@@ -73,7 +73,7 @@ static void compare(struct lent setting, struct lent samples)
 }
 
 /* A pair of blocks, of 21 sets; some spoiled by the last sample, the zero byte
- * at 509 or the last byte of the check. */
+ * at 509 or the last byte of the check; one of five with slopes that fall. */
 static void draw_pair(struct draw *d, size_t i, uint8_t *setting, uint8_t *samples)
 {
     int16_t list[BLOCK_NUMBERS];
@@ -87,6 +87,8 @@ static void draw_pair(struct draw *d, size_t i, uint8_t *setting, uint8_t *sampl
         wave_set(&wave, &s, k, list + SET_NUMBERS * k);
     if (i % 8 == 1)
         list[BLOCK_NUMBERS - 1] = draw_chance(d, 50) ? 32001 : 1;
+    if (i % 5 == 4)
+        draw_falling(d, &s);
     lay_setting(&s, setting);
     write_samples(samples, BLOCK_BYTES, 0, list, BLOCK_NUMBERS);
     setting[509] = i % 16 == 3;
@@ -138,8 +140,8 @@ int main(void)
         compare_pair(&a, &b, setting, samples);
         compare_null(&a, setting, samples);
     }
-    printf("edges: %u tried, %u measured, refused 1:%u 2:%u 5:%u 9:%u 10:%u 11:%u, "
-           "%u differ\n", tried, count[0], count[1], count[2], count[5], count[9],
-           count[10], count[11], differ);
+    printf("edges: %u tried, %u measured, refused 1:%u 2:%u 5:%u 9:%u 10:%u 11:%u "
+           "17:%u, %u differ\n", tried, count[0], count[1], count[2], count[5],
+           count[9], count[10], count[11], count[17], differ);
     return differ != 0;
 }

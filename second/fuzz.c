@@ -1,7 +1,8 @@
 /* Compares the host's two calls with the second program on random pairs of a
  * setting block and a sample block: mostly sound, some damaged, at more than
  * one place too. A sample block that is read is then measured with its samples
- * negated, which must give the same number. */
+ * negated, which must give the same number. Two of five pairs come once more with
+ * slopes that fall, most of these with other faults beside. */
 #include "../include/tdp.h"
 #include "draw.h"
 
@@ -28,6 +29,8 @@ static void draw_pair_setting(struct draw *d, struct setting *s)
     if (draw_chance(d, 70)) {
         s->pick_up = (uint16_t)draw_from(d, 100, 500);
         s->slope1 = (uint16_t)draw_from(d, 10, 60);
+        if (s->slope2 < s->slope1)
+            s->slope2 = s->slope1;
     }
     if (draw_chance(d, 40))
         s->flags = 0;
@@ -135,6 +138,43 @@ static int turn_pair(const struct pair *p, struct pair *turned)
     return 1;
 }
 
+/* Damage to a sample block by number: length, check, mark, 22 sets, or a byte that
+ * must be zero; from 5 on none. */
+static void spoil_samples(struct draw *d, size_t kind, struct pair *p)
+{
+    if (kind == 0)
+        p->samples_length = (size_t)draw_from(d, 0, BLOCK_BYTES - 1);
+    else if (kind == 2)
+        p->samples[0] ^= (uint8_t)draw_from(d, 1, 255);
+    else if (kind == 3)
+        p->samples[1] = (uint8_t)(draw_chance(d, 50) ? 22 : draw_from(d, 22, 255));
+    else if (kind == 4)
+        p->samples[draw_from(d, 2, 3)] = (uint8_t)draw_from(d, 1, 255);
+    if (kind < 5)
+        seal_block(p->samples);
+    if (kind == 1)
+        p->samples[draw_from(d, 510, 511)] ^= (uint8_t)draw_from(d, 1, 254);
+}
+
+/* Pair number i with slopes that fall; by a power of 1 or 50,000 in two of seven, 6
+ * or 7 mostly comes first. A check that was wrong stays so. */
+static void fall_pair(struct draw *d, size_t i, const struct pair *p, struct pair *fallen)
+{
+    struct setting s;
+    size_t offset;
+    int right = read_setting(p->setting, BLOCK_BYTES, &s, &offset) != CHECK_WRONG;
+
+    *fallen = *p;
+    draw_falling(d, &s);
+    put_field(fallen->setting, &FIELD[22], s.slope1);
+    put_field(fallen->setting, &FIELD[23], s.slope2);
+    if (i % 7 < 2)
+        put_field(fallen->setting, &FIELD[3], i % 7 == 0 ? 1 : 50000);
+    if (right)
+        seal_block(fallen->setting);
+    spoil_samples(d, i % 9, fallen);
+}
+
 /* Whether both calls give what the second program gives; shows it if not. */
 static int same(const struct pair *p, const char *what, size_t i, uint32_t measured,
                 int show)
@@ -154,10 +194,45 @@ static int same(const struct pair *p, const char *what, size_t i, uint32_t measu
     return 0;
 }
 
+/* What pairs with slopes that fall come to: by refusal, and those that come to 17 by
+ * what their sample block is refused for, 0 if it is read. */
+static unsigned long fell[SLOPES_FALL + 1], beside[ZERO_BYTE_WRONG + 1];
+
+/* One pair with slopes that fall; whether both calls are as they must be. */
+static int fall(struct draw *d, size_t i, const struct pair *p, int show)
+{
+    static struct pair f;
+    int16_t list[BLOCK_NUMBERS];
+    size_t n = 0;
+    uint32_t measured;
+
+    fall_pair(d, i, p, &f);
+    measured = measure_block(f.setting, f.setting_length, f.samples, f.samples_length);
+    fell[measured < 100 ? measured : 0]++;
+    if (measured == SLOPES_FALL)
+        beside[read_samples(f.samples, f.samples_length, list, &n)]++;
+    return same(&f, "falling block", i, measured, show);
+}
+
+/* Tells what pairs with slopes that fall come to; none is measured. */
+static int tell_fallen(void)
+{
+    static const uint8_t samples[6] = {0, 1, 2, 3, 8, 9};
+
+    printf("fuzz: slopes that fall, refused");
+    for (size_t i = 1; i < 8; i++)
+        printf(" %zu:%lu", i, fell[i]);
+    printf(" 17:%lu; at 17 the sample block", fell[SLOPES_FALL]);
+    for (size_t i = 0; i < 6; i++)
+        printf(" %u:%lu", samples[i], beside[samples[i]]);
+    printf("; %lu measured\n", fell[0]);
+    return fell[0] == 0;
+}
+
 int main(int argc, char **argv)
 {
     static struct pair p, t;
-    struct draw d = {0xF022};
+    struct draw d = {0xF022}, falling = {0xFA11};
     unsigned long count = argc > 1 ? strtoul(argv[1], NULL, 10) : DEFAULT_COUNT;
     unsigned long latched = 0, refused = 0, turned = 0, differ = 0;
 
@@ -174,8 +249,10 @@ int main(int argc, char **argv)
             turned++;
             differ += !same(&t, "turned block", i, measured, differ < SHOWN);
         }
+        if (i % 5 < 2)
+            differ += !fall(&falling, i, &p, differ < SHOWN);
     }
     printf("fuzz: %lu tried, %lu latched, %lu refused, %lu turned, %lu differ\n", count,
            latched, refused, turned, differ);
-    return differ != 0;
+    return !tell_fallen() || differ != 0;
 }

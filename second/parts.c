@@ -194,6 +194,21 @@ static struct change page_edge(size_t i)
     return (struct change){{PAGE_PART, (uint8_t)(i / 5)}, byte[i % 5]};
 }
 
+/* One slope beside the other or at the edge of its range: m2 below m1, m1 above m2;
+ * both the same; m2 above m1, m1 below m2. */
+struct change slope_change(const struct setting *s, size_t i)
+{
+    const uint32_t m1 = s->slope1, m2 = s->slope2;
+    const struct {
+        uint8_t at;
+        uint32_t value;
+    } to[SLOPE_CHANGES] = {{66, m1 - 1}, {66, m1 - 2}, {66, 10}, {64, m2 + 1},
+                           {64, 150},    {66, m1},     {64, m2}, {66, m1 + 1},
+                           {66, 150},    {64, m2 - 1}};
+
+    return (struct change){{SETTING_PART, to[i].at}, to[i].value};
+}
+
 /* Change number i, in order of the kinds. */
 struct change edge_change(struct draw *d, const struct relay *relay, size_t i)
 {
@@ -217,6 +232,9 @@ struct change edge_change(struct draw *d, const struct relay *relay, size_t i)
     i -= 16;
     if (i < 10)
         return page_edge(i);
+    i -= 10;
+    if (i < SLOPE_CHANGES)
+        return slope_change(&relay->setting, i);
     return number_edge(d, i);
 }
 

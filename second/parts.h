@@ -36,10 +36,14 @@ void lay_change(struct change change, uint8_t block[BLOCK_BYTES]);
 struct change take_change(const uint8_t block[BLOCK_BYTES]);
 
 /* Changes over all parts but those of overcurrent, at the edge of each rule and past
- * it: number i, from 0 on, for a record as it is. And those of overcurrent. */
-#define CHANGES 330
+ * it: number i, from 0 on, for a record as it is. Those of overcurrent; and those of
+ * one slope, of which the first ones make slopes fall. */
+#define CHANGES 340
 #define OVER_CHANGES 60
+#define SLOPE_CHANGES 10
+#define FALLING_CHANGES 5
 struct change edge_change(struct draw *d, const struct relay *relay, size_t i);
 struct change over_change(struct draw *d, size_t i);
+struct change slope_change(const struct setting *s, size_t i);
 
 #endif

@@ -58,7 +58,8 @@ enum refusal {
     BUFFER_TOO_SHORT = 13,
     LIST_WRONG = 14,
     PAGE_BEYOND = 15,
-    BYTE_FIXED = 16
+    BYTE_FIXED = 16,
+    SLOPES_FALL = 17
 };
 
 /* One end of the bank: voltage in 0.1 kV, rated current in A. */
@@ -123,7 +124,8 @@ struct answer {
 };
 
 /* Blocks. With FIELD_WRONG the offset becomes the lowest of a field outside its
- * rule (document 02, card 3), else 0. */
+ * rule (document 02, card 3), else 0. Slopes that fall are read and written like
+ * others. */
 enum refusal read_setting(const uint8_t *bytes, size_t length,
                           struct setting *setting, size_t *offset);
 enum refusal setting_refusal(const struct setting *setting, size_t *offset);
@@ -153,8 +155,9 @@ void measure_window(const struct setting *setting,
 uint32_t curve_entry(unsigned curve, unsigned j);
 int32_t end_amplitude(const int32_t values[WINDOW_NUMBERS], size_t end);
 
-/* The relay. A refused call leaves record and answer as before, but that a set
- * refused with 14, 10 or 11 raises its flag. */
+/* The relay. It is not started on slopes that fall (document 02, card 7). A refused
+ * call leaves record and answer as before, but that a set refused with 14, 10 or 11
+ * raises its flag. */
 enum refusal relay_start(const struct setting *setting, struct relay *relay,
                          size_t *offset);
 enum refusal relay_sample(struct relay *relay, const int16_t *list, size_t n,

@@ -427,8 +427,9 @@ static const struct faults FAULTS[] = {
     {{{17, 1}}, 7, 0, 7, 0},
     {{{17, 1}, {70, 9}, {58, 1}}, 5, 58, 5, 70}};
 
-/* Start and writer on values; refused, they leave relay and buffer as before. */
-static void meet_values(const struct setting *s, int refusal, int64_t at)
+/* Start and writer on values; refused, they leave relay and buffer as before. With
+ * either, 5 comes at the same offset. */
+static void meet_values(const struct setting *s, int start, int write, int64_t at)
 {
     struct relay relay, no_relay;
     uint8_t buffer[600], filled[600];
@@ -438,15 +439,15 @@ static void meet_values(const struct setting *s, int refusal, int64_t at)
     memset(&no_relay, 0xA5, sizeof no_relay);
     memset(buffer, 0xA5, sizeof buffer);
     memset(filled, 0xA5, sizeof filled);
-    meet("start", relay_start(s, &relay, &offset), refusal);
+    meet("start", relay_start(s, &relay, &offset), start);
     meet("start's offset", (int64_t)offset, at);
-    meet("started", memcmp(&relay, &no_relay, sizeof relay) != 0, refusal == 0);
-    meet("short", write_setting(s, buffer, 511, &offset), refusal ? refusal : 13);
+    meet("started", memcmp(&relay, &no_relay, sizeof relay) != 0, start == 0);
+    meet("short", write_setting(s, buffer, 511, &offset), write ? write : 13);
     meet("short's offset", (int64_t)offset, at);
     meet("untouched", memcmp(buffer, filled, sizeof buffer), 0);
-    meet("write", write_setting(s, buffer, sizeof buffer, &offset), refusal);
+    meet("write", write_setting(s, buffer, sizeof buffer, &offset), write);
     meet("write's offset", (int64_t)offset, at);
-    meet("written", memcmp(buffer, filled, 512) != 0, refusal == 0);
+    meet("written", memcmp(buffer, filled, 512) != 0, write == 0);
     meet("behind", memcmp(buffer + 512, filled + 512, 88), 0);
 }
 
@@ -467,7 +468,7 @@ static void check_first_fault(void)
         meet("faults", read_setting(block, BLOCK_BYTES, &s, &offset), f->block);
         meet("lowest offset", (int64_t)offset, f->block_offset);
         take_setting(block, &s);
-        meet_values(&s, f->values, f->values_offset);
+        meet_values(&s, f->values, f->values, f->values_offset);
     }
 }
 
@@ -482,7 +483,7 @@ static void check_setting_writer(void)
         size_t offset;
 
         memset(block, 0xA5, sizeof block);
-        draw_setting(&d, (uint8_t)(2 + i % 3), &s);
+        draw_any_setting(&d, (uint8_t)(2 + i % 3), &s);
         meet("short", write_setting(&s, block, BLOCK_BYTES - 1, &offset), 13);
         meet("untouched", block[0] == 0xA5 && block[511] == 0xA5, 1);
         meet("write", write_setting(&s, block, sizeof block, &offset), 0);
@@ -2019,9 +2020,433 @@ static void check_unused_places(void)
     }
 }
 
+/* ---- Slopes that fall ---- */
+
+#define ALL_BYTES 9         /* a fault of the whole block: length or check */
+#define SLOPE_DRAWS 300000
+
+/* Slopes, and whether the second is less than the first. */
+static const struct {
+    uint16_t m1, m2;
+    int falls;
+} SLOPES[] = {{11, 10, 1}, {31, 30, 1},  {150, 149, 1}, {150, 10, 1}, {70, 30, 1},
+              {10, 10, 0}, {40, 40, 0},  {150, 150, 0}, {10, 11, 0},  {149, 150, 0},
+              {30, 70, 0}, {10, 150, 0}};
+
+/* One fault of a setting: its refusal, and the number of so many bytes that makes it.
+ * Length and check are of the whole block; marks and spare bytes are in no values.
+ * The faults of 6 and 7 hold together too. */
+struct wrong {
+    int refusal, in_values;
+    size_t at, width;
+    uint32_t value;
+};
+
+static const struct wrong WRONG[] = {
+    {1, 0, 0, ALL_BYTES, 511}, {1, 0, 0, ALL_BYTES, 0}, {2, 0, 0, ALL_BYTES, 0},
+    {3, 0, 0, 1, 0x53},        {3, 0, 3, 1, 0x30},
+    {4, 1, 4, 1, 1},           {4, 1, 4, 1, 5},
+    {5, 1, 5, 1, 8},           {5, 1, 6, 1, 0},         {5, 0, 7, 1, 1},
+    {5, 1, 8, 4, 0},           {5, 1, 12, 4, 15001},    {5, 1, 16, 4, 50001},
+    {5, 1, 20, 1, 1},          {5, 1, 21, 1, 2},        {5, 0, 23, 1, 1},
+    {5, 1, 24, 4, 0},          {5, 1, 32, 1, 12},       {5, 0, 34, 1, 255},
+    {5, 1, 45, 1, 2},          {5, 1, 57, 1, 2},        {5, 0, 59, 1, 1},
+    {5, 1, 60, 2, 99},         {5, 1, 62, 2, 30001},    {5, 1, 64, 2, 9},
+    {5, 1, 64, 2, 151},        {5, 1, 64, 2, 0x4600},   {5, 1, 66, 2, 9},
+    {5, 1, 66, 2, 151},        {5, 1, 66, 2, 0x0A00},   {5, 1, 68, 2, 1499},
+    {5, 1, 70, 2, 51},         {5, 1, 72, 2, 9},        {5, 1, 74, 2, 199},
+    {5, 1, 76, 1, 3},          {5, 0, 77, 1, 1},        {5, 0, 509, 1, 1},
+    {6, 1, 28, 4, 50000},      {7, 1, 8, 4, 2703}};
+#define WRONGS (sizeof WRONG / sizeof WRONG[0])
+
+/* Calls, and in its order what each may refuse; from 21 on, 20 less, what a sample
+ * block and its sets are refused for (documents 01 and 02, cards 2 and 7). */
+enum call { READER, WRITER, STARTER, MEASURER, SAMPLER, RESETTER, PAGE_READER,
+            PAGE_WRITER, CALLS };
+static const uint8_t ORDER[CALLS][16] = {
+    [READER] = {1, 2, 3, 4, 5, 6, 7},
+    [WRITER] = {4, 5, 6, 7, 13},
+    [STARTER] = {4, 5, 17, 6, 7},
+    [MEASURER] = {1, 2, 3, 4, 5, 6, 7, 17, 21, 22, 23, 28, 29, 30, 31},
+    [SAMPLER] = {12, 14, 10, 11},
+    [RESETTER] = {12},
+    [PAGE_READER] = {15, 12},
+    [PAGE_WRITER] = {15, 16, 12}};
+
+/* Numbers that apply, number n as bit n. */
+typedef uint64_t numbers;
+#define BIT(n) ((numbers)1 << (n))
+
+/* A setting with faults: its block, the length handed over, the values in it, what
+ * applies to either, and the lowest field that 5 is for in each. */
+struct faulty {
+    uint8_t block[BLOCK_BYTES];
+    size_t length, ends;
+    struct setting values;
+    numbers of_block, of_values;
+    size_t block_offset, values_offset;
+};
+
+/* Settings tried; answers 17 of the start, without 6 or 7 and with them; those of the
+ * measuring call, with a sound sample block and with another; blocks with slopes that
+ * fall written back; and refusals 12 by such slopes alone, by call. */
+static struct {
+    unsigned tried, start[2], measured[2], back, declined[CALLS];
+} fallen;
+
+/* The first refusal of a call among those that apply, or 0. */
+static int first_of(enum call call, numbers applies)
+{
+    for (size_t i = 0; i < 16 && ORDER[call][i] != 0; i++)
+        if (applies & BIT(ORDER[call][i]))
+            return ORDER[call][i] % 20;
+    return 0;
+}
+
+/* The lower of two offsets, of which 0 is none. */
+static size_t lower_of(size_t a, size_t b)
+{
+    return a == 0 || (b != 0 && b < a) ? b : a;
+}
+
+/* Puts a fault into a block, and tells what applies by it. */
+static void add_wrong(const struct wrong *w, struct faulty *f)
+{
+    size_t offset = w->refusal == 5 ? w->at : 0;
+
+    f->of_block |= BIT(w->refusal);
+    f->block_offset = lower_of(f->block_offset, offset);
+    if (w->in_values) {
+        f->of_values |= BIT(w->refusal);
+        f->values_offset = lower_of(f->values_offset, offset);
+    }
+    if (w->refusal == 1)
+        f->length = w->value;
+    for (size_t i = 0; w->width < ALL_BYTES && i < w->width; i++)
+        f->block[w->at + i] = (uint8_t)(w->value >> (8 * i));
+}
+
+/* The plain setting of so many ends with a curve on, slopes of the list, and up to
+ * two faults. */
+static void make_faulty(size_t ends, size_t slopes, const struct wrong *a,
+                        const struct wrong *b, struct faulty *f)
+{
+    struct setting s = plain_setting;
+
+    s.ends = (uint8_t)ends;
+    for (size_t z = 2; z < ends; z++)
+        s.end[z] = s.end[0];
+    s.curve = 1;
+    s.overcurrent = 300;
+    s.slope1 = SLOPES[slopes].m1;
+    s.slope2 = SLOPES[slopes].m2;
+    memset(f, 0, sizeof *f);
+    f->length = BLOCK_BYTES;
+    f->ends = ends;
+    f->of_block = f->of_values = SLOPES[slopes].falls ? BIT(17) : 0;
+    lay_setting(&s, f->block);
+    if (a != NULL)
+        add_wrong(a, f);
+    if (b != NULL)
+        add_wrong(b, f);
+    take_setting(f->block, &f->values);
+    seal_block(f->block);
+    if (f->of_block & BIT(2))
+        f->block[510] ^= 1;
+}
+
+/* The reader; and what it reads, if anything, is written back to the same bytes. */
+static void meet_reader(const struct faulty *f)
+{
+    int wanted = first_of(READER, f->of_block);
+    uint8_t back[BLOCK_BYTES];
+    struct setting s;
+    size_t offset;
+
+    meet("slopes read", read_setting(f->block, f->length, &s, &offset), wanted);
+    meet("offset read", (int64_t)offset, wanted == 5 ? (int64_t)f->block_offset : 0);
+    if (wanted != 0)
+        return;
+    meet("written back", write_setting(&s, back, sizeof back, &offset), 0);
+    meet("same bytes", memcmp(back, f->block, sizeof back), 0);
+    fallen.back += (f->of_block & BIT(17)) != 0;
+}
+
+/* Start and writer on the values. */
+static void meet_judged(const struct faulty *f)
+{
+    int start = first_of(STARTER, f->of_values);
+    int write = first_of(WRITER, f->of_values);
+
+    meet_values(&f->values, start, write,
+                start == 5 ? (int64_t)f->values_offset : 0);
+    if (start == 17)
+        fallen.start[(f->of_values & (BIT(6) | BIT(7))) != 0]++;
+}
+
+/* A sample block of one set with the faults told, and the length handed over. */
+static size_t make_samples(numbers faults, uint8_t block[BLOCK_BYTES])
+{
+    int16_t list[SET_NUMBERS] = {0};
+
+    list[2] = faults & BIT(30) ? -32001 : 0;
+    list[11] = faults & BIT(31) ? 1 : 0;
+    write_samples(block, BLOCK_BYTES, 0, list, SET_NUMBERS);
+    block[0] ^= (faults & BIT(23)) != 0;
+    block[1] = faults & BIT(28) ? 22 : 1;
+    block[509] = (faults & BIT(29)) != 0;
+    seal_block(block);
+    block[511] ^= (faults & BIT(22)) != 0;
+    return faults & BIT(21) ? BLOCK_BYTES - 1 : BLOCK_BYTES;
+}
+
+/* The measuring call, with a sound sample block and with others. */
+static void meet_measured(const struct faulty *f)
+{
+    static const numbers faults[] = {
+        0,        BIT(21), BIT(22), BIT(23), BIT(28), BIT(29), BIT(30), BIT(31),
+        BIT(21) | BIT(22), BIT(22) | BIT(23), BIT(23) | BIT(28), BIT(28) | BIT(29),
+        BIT(29) | BIT(30), BIT(30) | BIT(31)};
+
+    for (size_t i = 0; i < sizeof faults / sizeof faults[0]; i++) {
+        uint8_t samples[BLOCK_BYTES];
+        size_t length = make_samples(faults[i], samples);
+        int wanted;
+
+        if (f->ends == MAX_ENDS && (faults[i] & BIT(31)))
+            continue;
+        wanted = first_of(MEASURER, f->of_block | faults[i]);
+        meet("slopes measured",
+             measure_block(f->block, f->length, samples, length),
+             wanted ? wanted : 100);
+        if (wanted == 17)
+            fallen.measured[faults[i] != 0]++;
+    }
+}
+
+/* A call on a record: what applies to its setting counts under 12, and at 12 all is
+ * left. */
+static void meet_record(enum call call, int found, numbers applies,
+                        const struct relay *relay, const struct relay *before)
+{
+    numbers setting = applies & (BIT(4) | BIT(5) | BIT(6) | BIT(7) | BIT(17));
+    int wanted = first_of(call, setting ? applies | BIT(12) : applies);
+
+    meet("call on slopes", found, wanted);
+    if (wanted == 12)
+        meet("record left", memcmp(relay, before, sizeof *relay), 0);
+    fallen.declined[call] += wanted == 12 && setting == BIT(17);
+}
+
+/* Sample calls on a record: sound, and with what 14, 10 and 11 decline. */
+static void meet_sampler(const struct relay *before, numbers values)
+{
+    static const numbers faults[] = {0,       BIT(14),           BIT(10),
+                                     BIT(11), BIT(14) | BIT(10), BIT(10) | BIT(11)};
+    struct answer a;
+
+    for (size_t i = 0; i < sizeof faults / sizeof faults[0]; i++) {
+        int16_t list[SET_NUMBERS + 1] = {0};
+        struct relay relay = *before;
+        size_t n = faults[i] & BIT(14) ? SET_NUMBERS + 1 : SET_NUMBERS;
+
+        if (before->setting.ends == MAX_ENDS && (faults[i] & BIT(11)))
+            continue;
+        list[0] = faults[i] & BIT(10) ? 32001 : 0;
+        list[11] = faults[i] & BIT(11) ? -1 : 0;
+        meet_record(SAMPLER, relay_sample(&relay, list, n, &a), values | faults[i],
+                    &relay, before);
+    }
+}
+
+/* Reads and writes of the page on a record: in it, past it, and at other bytes. */
+static void meet_pages(const struct relay *before, numbers values)
+{
+    static const struct {
+        uint64_t offset;
+        numbers read, write;
+    } table[] = {{3, 0, 0},        {4, 0, 0},  {7, 0, 0},
+                 {0, 0, BIT(16)},  {63, 0, BIT(16)},
+                 {64, BIT(15), BIT(15) | BIT(16)},
+                 {4294967299, BIT(15), BIT(15) | BIT(16)}};
+
+    for (size_t i = 0; i < sizeof table / sizeof table[0]; i++) {
+        struct relay relay = *before;
+        uint8_t byte = 99;
+
+        meet_record(PAGE_READER, relay_read(&relay, table[i].offset, &byte),
+                    values | table[i].read, &relay, before);
+        meet("byte left", byte == 99, (values | table[i].read) != 0);
+        meet_record(PAGE_WRITER, relay_write(&relay, table[i].offset, 1),
+                    values | table[i].write, &relay, before);
+    }
+}
+
+/* Every call on a full record that holds the values. */
+static void meet_calls(const struct faulty *f, const struct relay *full)
+{
+    struct relay before = *full, relay;
+
+    before.setting = f->values;
+    relay = before;
+    meet_record(RESETTER, relay_reset(&relay), f->of_values, &relay, &before);
+    meet_sampler(&before, f->of_values);
+    meet_pages(&before, f->of_values);
+}
+
+/* Whether two faults are of the same field. */
+static int same_place(const struct wrong *a, const struct wrong *b)
+{
+    return a->at == b->at && a->width == b->width && a->width < ALL_BYTES;
+}
+
+/* Slopes of the list with no fault, each fault and each two, for 2, 3 and 4 ends. */
+static void check_slope_faults(void)
+{
+    struct relay full = full_relay(&plain_setting);
+    struct faulty f;
+
+    for (size_t i = 0; i < 3 * sizeof SLOPES / sizeof SLOPES[0]; i++)
+        for (size_t a = 0; a <= WRONGS; a++)
+            for (size_t b = a == WRONGS ? a : a + 1; b <= WRONGS; b++) {
+                const struct wrong *one = a < WRONGS ? &WRONG[a] : NULL;
+                const struct wrong *other = b < WRONGS ? &WRONG[b] : NULL;
+
+                if (one != NULL && other != NULL && same_place(one, other))
+                    continue;
+                make_faulty(2 + i % 3, i / 3, one, other, &f);
+                meet_reader(&f);
+                meet_judged(&f);
+                meet_measured(&f);
+                meet_calls(&f, &full);
+                fallen.tried++;
+            }
+    printf("second: %u settings by slopes and faults; start 17 %u, with 6 or 7 %u; "
+           "measuring call 17 %u, with a wrong sample block %u; written back %u; 12 by "
+           "slopes alone, sample %u, reset %u, read %u, write %u\n", fallen.tried,
+           fallen.start[0], fallen.start[1], fallen.measured[0], fallen.measured[1],
+           fallen.back, fallen.declined[SAMPLER], fallen.declined[RESETTER],
+           fallen.declined[PAGE_READER], fallen.declined[PAGE_WRITER]);
+}
+
+/* Every m1 and m2 of the range; m2 goes up and comes to m1 on its way. */
+static void check_every_slope(void)
+{
+    uint8_t block[BLOCK_BYTES], back[BLOCK_BYTES], samples[BLOCK_BYTES];
+    struct setting s = plain_setting, values;
+    struct relay full = full_relay(&s), fresh;
+    size_t offset;
+
+    write_samples(samples, sizeof samples, 0, NULL, 0);
+    for (s.slope1 = 10; s.slope1 <= 150; s.slope1++) {
+        int falls = 1;
+
+        for (s.slope2 = 10; s.slope2 <= 150; s.slope2++) {
+            if (s.slope2 == s.slope1)
+                falls = 0;
+            lay_setting(&s, block);
+            meet("read", read_setting(block, BLOCK_BYTES, &values, &offset), 0);
+            meet("write", write_setting(&values, back, BLOCK_BYTES, &offset), 0);
+            meet("same bytes", memcmp(back, block, BLOCK_BYTES), 0);
+            meet("start", relay_start(&s, &fresh, &offset), falls ? 17 : 0);
+            meet("measured", measure_block(block, BLOCK_BYTES, samples, BLOCK_BYTES),
+                 falls ? 17 : 100);
+            full.setting = s;
+            meet("reset", relay_reset(&full), falls ? 12 : 0);
+        }
+    }
+}
+
+/* Systems with R above 2Q: those that start on a setting that can be started, those
+ * of them on slopes that are the same; those that would start on slopes that fall,
+ * and of them not above the line of m1. */
+static struct {
+    unsigned started, same, falling, below;
+} eager;
+
+/* Whether D is above the line of m1 from P on. */
+static int above_line(const struct setting *s, int64_t d, int64_t r)
+{
+    return 200 * d > 200 * (int64_t)s->pick_up + s->slope1 * (r - s->pick_up);
+}
+
+/* Slopes in turn that rise, are the same and fall. */
+static void draw_turn_slopes(struct draw *d, unsigned i, struct setting *s)
+{
+    draw_falling(d, s);
+    if (i % 3 == 2)
+        return;
+    s->slope1 = i % 3 == 0 ? s->slope2 : s->slope1;
+    s->slope2 = (uint16_t)(i % 3 == 0 ? draw_from(d, s->slope1, 150) : s->slope1);
+}
+
+/* A system with R above 2Q, D about its limit or about the line. */
+static void meet_eager(struct draw *d, const struct setting *s)
+{
+    int64_t p = s->pick_up, knee = 2 * (int64_t)s->third_section;
+    int64_t r = knee + (draw_chance(d, 20) ? 1 : draw_spread(d, 1, 3000000));
+    int64_t line = 200 * p + s->slope1 * (r - p);
+    int64_t limit = 200 * p + s->slope1 * (knee - p) + s->slope2 * (r - knee);
+    int64_t now = (draw_chance(d, 50) ? line : limit) / 200 + draw_from(d, -1, 2);
+    int on = starts(s, now, r), above = above_line(s, now, r);
+    struct relay relay;
+    size_t offset;
+
+    if (relay_start(s, &relay, &offset) == ACCEPTED) {
+        meet("a start is above the line", on && !above, 0);
+        eager.started += (unsigned)on;
+        if (s->slope1 == s->slope2)
+            meet("the line is the limit", on, above);
+        eager.same += on && s->slope1 == s->slope2;
+    } else {
+        eager.falling += (unsigned)on;
+        eager.below += on && !above;
+    }
+}
+
+/* Why a relay doesn't start on slopes that fall: it would start at heavy through
+ * current where a relay on m1 alone would not. P 200, Q 4,000, R 10,000: at m1 70
+ * and m2 30 the limit is 200 + (70 * 7,800 + 30 * 2,000) / 200 = 3,230, the line of
+ * m1 200 + 70 * 9,800 / 200 = 3,630. */
+static void check_eager(void)
+{
+    struct setting s = plain_setting;
+    struct draw d = {0xEA6E2};
+
+    s.slope1 = 70;
+    s.slope2 = 30;
+    meet("falling", starts(&s, 3231, 10000) && !starts(&s, 3230, 10000), 1);
+    meet("below the line", above_line(&s, 3630, 10000), 0);
+    s.slope2 = 70;
+    meet("the same", starts(&s, 3631, 10000) && !starts(&s, 3630, 10000), 1);
+    meet("above the line", above_line(&s, 3631, 10000), 1);
+    for (unsigned i = 0; i < SLOPE_DRAWS; i++) {
+        if (i % 100 == 0)
+            draw_setting(&d, (uint8_t)(2 + i / 100 % 3), &s);
+        s.pick_up = (uint16_t)draw_from(&d, 100, 2500);
+        s.third_section = (uint16_t)draw_from(&d, 1500, 10000);
+        draw_turn_slopes(&d, i, &s);
+        meet_eager(&d, &s);
+    }
+    meet("thousands that start", eager.started > 5000 && eager.same > 5000, 1);
+    meet("thousands that would start below the line", eager.below > 5000, 1);
+    printf("second: %u systems with R above 2Q: can be started %u start, %u of them at "
+           "slopes the same; slopes that fall %u would, %u of them not above the line "
+           "of m1\n", SLOPE_DRAWS, eager.started, eager.same, eager.falling,
+           eager.below);
+}
+
+/* Slopes that fall (document 02, card 7). */
+static void check_slopes(void)
+{
+    check_slope_faults();
+    check_every_slope();
+    check_eager();
+}
+
 /* ---- The measuring call ---- */
 
-#define MEASURED_PAIRS 12000
+#define MEASURED_PAIRS 16000
 #define PAIR_ROOM 520
 #define ANSWERS 108         /* refusals, and 100 to 107 */
 
@@ -2042,9 +2467,9 @@ static uint32_t by_calls(const struct pair *p)
     uint32_t r = read_setting(p->setting, p->setting_length, &s, &offset);
 
     if (r == ACCEPTED)
-        r = read_samples(p->samples, p->samples_length, list, &n);
-    if (r == ACCEPTED)
         r = relay_start(&s, &relay, &offset);
+    if (r == ACCEPTED)
+        r = read_samples(p->samples, p->samples_length, list, &n);
     for (size_t k = 0; r == ACCEPTED && k < n; k += SET_NUMBERS)
         r = relay_sample(&relay, list + k, SET_NUMBERS, &answer);
     if (r != ACCEPTED)
@@ -2095,7 +2520,7 @@ static void spoil_samples(struct draw *d, unsigned kind, struct pair *p)
 
 /* Pair number i: a scene of up to 21 sets with some that 10 or 11 decline in one of
  * five; in two of five damage to one block or both. P at a system's D, or beside it,
- * in one of four. */
+ * in one of four; slopes that fall in another. */
 static void draw_pair(struct draw *d, unsigned i, struct pair *p)
 {
     size_t sets = (size_t)draw_from(d, draw_chance(d, 80) ? 15 : 0, BLOCK_SETS);
@@ -2112,6 +2537,8 @@ static void draw_pair(struct draw *d, unsigned i, struct pair *p)
     if (i % 4 == 0)
         aim_pick_up(list, (size_t)draw_from(d, 0, 2), draw_from(d, -1, 1),
                     &scene.setting);
+    if (i % 4 == 3)
+        draw_falling(d, &scene.setting);
     memset(p, 0, sizeof *p);
     lay_setting(&scene.setting, p->setting);
     write_samples(p->samples, BLOCK_BYTES, 0, list, SET_NUMBERS * sets);
@@ -2125,8 +2552,8 @@ static void draw_pair(struct draw *d, unsigned i, struct pair *p)
 /* Drawn pairs against the other calls; each answer comes up some dozens of times. */
 static void check_measured_pairs(void)
 {
-    static const uint8_t met[] = {1, 2, 3, 4, 5, 6, 7, 8, 9, 10, 11, 100, 101, 102,
-                                  103, 104, 105, 106, 107};
+    static const uint8_t met[] = {1, 2, 3, 4, 5, 6, 7, 8, 9, 10, 11, 17, 100, 101,
+                                  102, 103, 104, 105, 106, 107};
     unsigned count[ANSWERS] = {0}, refused = 0, latched = 0;
     struct draw d = {0x9A125};
     struct pair p;
@@ -2147,8 +2574,8 @@ static void check_measured_pairs(void)
         meet("dozens of an answer", count[met[i]] >= 24, 1);
     printf("second: %u pairs measured, %u latched, %u refused: ", MEASURED_PAIRS,
            latched, refused);
-    for (unsigned i = BLOCK_LENGTH; i <= UNUSED_END_WRONG; i++)
-        printf("%u:%u%s", i, count[i], i < UNUSED_END_WRONG ? " " : "\n");
+    for (size_t i = 0; met[i] < 100; i++)
+        printf("%u:%u%s", met[i], count[met[i]], met[i + 1] < 100 ? " " : "\n");
 }
 
 int main(void)
@@ -2179,6 +2606,7 @@ int main(void)
     check_times();
     check_apart();
     check_unused_places();
+    check_slopes();
     check_measured_pairs();
     if (failures != 0) {
         printf("second: selftest %u of %u checks fail\n", failures, checks);

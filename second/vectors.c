@@ -169,7 +169,7 @@ static int64_t aim_characteristic(struct draw *d, struct vector *v, int past,
         int64_t over;
 
         trial.slope1 = (uint16_t)draw_from(d, 10, 150);
-        trial.slope2 = (uint16_t)draw_from(d, 10, 150);
+        trial.slope2 = (uint16_t)draw_from(d, trial.slope1, 150);
         trial.third_section = (uint16_t)draw_from(d, 1500, 10000);
         trial.pick_up = near_pick_up(d, &trial, &m[y]);
         if (trial.pick_up == 0)

@@ -11,7 +11,7 @@ use Rattle.integer.specs.Root.{rootBy}
 use Rattle.integer.specs.Sum.{sum}
 use Rattle.lists.specs.Lists.{upTo}
 use Rattle.refusal.specs.Refusals.{byOutcome, firstRefusal}
-use Rattle.setting.specs.Values.{factor, factorHigh, factorsLow, valueRows, startRows}
+use Rattle.setting.specs.Values.{factor, factorHigh, factorsLow, startRows}
 use Rattle.setting.specs.Worked.{rated, twoEnds, plain}
 use Rattle.matching.specs.Matching.{Three, three, operation, operated, matched}
 use Rattle.matching.specs.Sets.{sysA, sysB, sysC, seen}
@@ -102,6 +102,6 @@ pub table : List Worked
 table = settings ++ (matchings ++ measurings)
 
 pub table-met : map (λ r. r .0) table ≡ map (λ r. r .1) table
-unfolding table settings matchings measurings square flat idle window plain starting factor factorHigh factorsLow valueRows seen
+unfolding table settings matchings measurings square flat idle window plain starting factor factorHigh factorsLow startRows seen
     matched operated operation starts amplitude cycle weightedSum t sum nearestAway nearest floor rootBy upTo
 table-met = refl

@@ -1,11 +1,11 @@
--- The refusals (document 01, "What the relay declines"; 15 and 16 by document 02, card 2).
+-- The refusals (document 01, "What the relay declines"; 15 and 16 by document 02, card 2, 17 by card 7).
 use mathlib.Core.Bool.{Bool, not, cond}
 use mathlib.Core.List.{List, [], _∷_}
 use mathlib.Core.Option.{Option, none, some}
 use Prim.Native.Nat.{ℕ}
 use Rattle.lists.specs.Tests.{each}
 use Rattle.refusal.specs.declared.Refusal.{Refusal}
-use Rattle.refusal.specs.declared.Refusal.the-variants.{Length, Check, Mark, Ends, Field, FactorHigh, FactorsLow, Sets, Spare, Reach, Unused, Record, Room, Count, Offset, Fixed}
+use Rattle.refusal.specs.declared.Refusal.the-variants.{Length, Check, Mark, Ends, Field, FactorHigh, FactorsLow, Sets, Spare, Reach, Unused, Record, Room, Count, Offset, Fixed, SlopesFall}
 use Rattle.refusal.specs.declared.Verdict.{Verdict}
 use Rattle.refusal.specs.declared.Verdict.the-variants.{Accepted, Refused}
 
@@ -34,6 +34,7 @@ toldOf Room = alone 13
 toldOf Count = alone 14
 toldOf Offset = alone 15
 toldOf Fixed = alone 16
+toldOf SlopesFall = alone 17
 
 -- the number, without the offset
 abbrev pub numberOf : Refusal → ℕ

@@ -3,7 +3,7 @@
 ghost use mathlib.Core.Path.{_≡_};
 ghost use Rattle.refusal.specs.Refusals.{numberOf};
 
-// The refusals, in the order of their numbers 1 to 16.
+// The refusals, in the order of their numbers 1 to 17.
 pub enum Refusal {
     // A block that is not 512 bytes.
     Length,
@@ -37,6 +37,8 @@ pub enum Refusal {
     Offset,
     // A write to a byte of the register page that is not written.
     Fixed,
+    // A second slope below the first, m2 less than m1.
+    SlopesFall,
 }
 
 // The number of a refusal in the table.
@@ -60,6 +62,7 @@ pub fn number(r: Refusal) -> u8
         Refusal::Count => 14,
         Refusal::Offset => 15,
         Refusal::Fixed => 16,
+        Refusal::SlopesFall => 17,
     }
 }
 

@@ -166,7 +166,7 @@ pub record Resets (r : Relay) (s : Returned) : Type 0 where
   pub reply : R.outcomeOf (s .verdict) ≡ resetReply r
   pub relay : s .relay ≡ resetRelay r
 
--- ---- starting a fresh relay from setting values: 4 to 7, and then a blank record, on which every call declines with 12
+-- ---- starting a fresh relay from setting values: 4, 5, 17, 6, 7 (17 by 02, card 7), and then a blank record, on which every call declines with 12
 
 abbrev pub startReply : Setting → Outcome (Unit {0})
 startReply v = firstRefusal (startRows v)

@@ -159,7 +159,7 @@ pub fn cleared(r: Relay) -> Relay
 }
 
 impl Relay {
-    // A fresh relay on setting values, or the refusal, 4 to 7, beside a blank record.
+    // A fresh relay on setting values, or the refusal, 4, 5, 17, 6, 7, beside a blank record.
     pub fn start(v: Setting) -> Returned
         ensures { λ s. ⌜ Starts v s ⌝ }
     {

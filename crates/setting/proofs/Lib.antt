@@ -2,4 +2,5 @@
 pub mod FieldLaws
 pub mod LowestLaws
 pub mod FactorLaws
+pub mod SlopeLaws
 pub mod LimitLaws

@@ -19,6 +19,7 @@ use Rattle.setting.specs.declared.Setting.{Setting}
 use Rattle.setting.specs.Values.{between, right, endOf, fields, allRight, factor, factors, factorHigh, valueRows, storeRows, storable, startable}
 use Rattle.setting.specs.Limits.{Limits, TimersOn}
 use Rattle.setting.proofs.FactorLaws.{factor-nonneg}
+use Rattle.setting.proofs.SlopeLaws.{startable-storable}
 
 -- ---- a field within its rule
 
@@ -125,9 +126,7 @@ storable-is v h =
       factor-within = λ z u. small (factor v z) (factor-nonneg v z (power-ranged v f .least)) (leZ-yes (low z u));
     }
 
--- a relay can be started only on values that a block may hold
-startable-storable : (v : Setting) → T (startable v) → T (storable v)
-startable-storable v h = h
+-- ---- values that a relay can be started on: they are among those
 
 pub startable-is : (v : Setting) → T (startable v) → Storable v
 startable-is v h = storable-is v (startable-storable v h)

@@ -1,4 +1,4 @@
--- Setting values and their rules (document 01, "The setting block" and the limits of "Matching"; document 02, cards 3 and 6).
+-- Setting values and their rules (document 01, "The setting block" and the limits of "Matching"; document 02, cards 3, 6 and 7).
 use mathlib.Core.Bool.{Bool, true, not, _&&_, cond}
 use mathlib.Core.List.{List, [], _∷_, _++_}
 use mathlib.Core.Option.{Option, none, some}
@@ -144,6 +144,8 @@ factorRows v = (6 when factorHigh v) ∷ (7 when factorsLow v) ∷ []
 unfoldable pub valueRows : List Field → Setting → List Row
 valueRows fs v = fieldRows fs v ++ factorRows v
 
+-- ---- what a block may hold
+
 -- the setting writer, before 13: 4 to 7
 abbrev pub storeRows : Setting → List Row
 storeRows v = valueRows (fields v) v
@@ -152,9 +154,15 @@ storeRows v = valueRows (fields v) v
 abbrev pub storable : Setting → Bool
 storable v = noneApplies (storeRows v)
 
--- starting a fresh relay from setting values: 4 to 7, the same rows; one that only a relay has would stand here
-abbrev pub startRows : Setting → List Row
-startRows v = storeRows v
+-- ---- what a relay can be started on (02, card 7)
+
+-- m2 less than m1
+abbrev pub falling : Thresholds → Bool
+falling t = ltb (t .slope2) (t .slope1)
+
+-- starting a fresh relay from setting values: 4, 5, 17, 6, 7
+unfoldable pub startRows : Setting → List Row
+startRows v = fieldRows (fields v) v ++ ((17 when falling (v .thresholds)) ∷ factorRows v)
 
 -- a relay can be started on these values
 abbrev pub startable : Setting → Bool

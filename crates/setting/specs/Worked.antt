@@ -69,6 +69,28 @@ flagged f =
       overcurrent = plain .overcurrent;
     }
 
+-- a setting with other slopes, m1 and m2 (02, card 7)
+abbrev pub sloped : (m1 m2 : ℕ) → Setting → Setting
+sloped m1 m2 v =
+    let t = v .thresholds in
+    record {
+      ends = v .ends;
+      flags = v .flags;
+      confirm = v .confirm;
+      power = v .power;
+      e0 = v .e0;
+      e1 = v .e1;
+      e2 = v .e2;
+      e3 = v .e3;
+      thresholds =
+          record { basic = t .basic; high = t .high; slope1 = m1; slope2 = m2; knee = t .knee; second = t .second; fifth = t .fifth };
+      overcurrent = v .overcurrent;
+    }
+
+-- slopes that fall: m1 70, m2 30
+unfoldable pub fallen : Setting
+fallen = sloped 70 30 plain
+
 -- the factory setting (02, card 14): S 40 MVA; 110 kV and 300 A, group 0, filter on; 20 kV and 1,200 A, group 5, filter off
 unfoldable pub factory : Setting
 factory =

@@ -1,8 +1,10 @@
-// The verdict on setting values: whether a block may hold them and whether a relay can be started on them, or the refusal, 4 to 7.
+// The verdict on setting values: whether a block may hold them, or the refusal, 4 to 7; and whether a relay can be started on them, or the refusal, 4, 5,
+// 17, 6, 7.
 
 ghost use mathlib.Core.Path.{_≡_};
 ghost use Rattle.setting.specs.Values.{startable};
 ghost use Rattle.setting.specs.Calls.{Judges, JudgesStart, JudgesBeside};
+ghost use Rattle.setting.specs.Slopes.{StartableIs, StartAfterReading};
 use crate::Fault;
 use crate::Setting;
 use crate::factors;
@@ -41,11 +43,21 @@ pub fn verdict(v: Setting) -> Verdict
     verdict_beside(v, Fault::Nowhere)
 }
 
-// Whether a relay can be started on setting values, or the refusal, 4 to 7.
+// Whether a relay can be started on setting values, or the refusal: slopes that fall are told after 4 and 5, and before 6 and 7.
 pub fn start_verdict(v: Setting) -> Verdict
     ensures { λ r. ⌜ JudgesStart v r ⌝ }
 {
-    verdict(v)
+    let stored = verdict(v);
+    let t = v.thresholds;
+    if t.slope1 <= t.slope2 {
+        return stored;
+    }
+    if let Verdict::Refused(r) = stored {
+        if refusal::number(r) <= 5 {
+            return stored;
+        }
+    }
+    Verdict::Refused(Refusal::SlopesFall)
 }
 
 // Whether a relay can be started on setting values.
@@ -57,3 +69,8 @@ pub fn sound(v: Setting) -> bool
         Verdict::Refused(_) => false,
     }
 }
+
+// What a relay can be started on, beside what a block may hold: no code, the two statements and their proofs.
+pub fn slopes()
+    ensures { λ _. ⌜ StartableIs × StartAfterReading ⌝ }
+{}

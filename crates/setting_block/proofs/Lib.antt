@@ -3,4 +3,4 @@ mod SpareLaws
 mod ReaderCases
 mod WriterCases
 mod LayoutLaws
-mod RoundTrip
+pub mod RoundTrip

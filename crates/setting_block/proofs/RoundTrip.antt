@@ -13,16 +13,20 @@ use borrow.Author.Tests.{eq-eqb, le-ltb}
 use Rattle.lists.specs.Tests.{hold}
 use Rattle.lists.proofs.TestLaws.{split, pair, is-true, hold-at, each-++}
 use Rattle.refusal.specs.Refusals.{_when_, gives, done, noneApplies}
+use Rattle.integer.specs.Nearest.{nearest, floor}
+use Rattle.lists.specs.Lists.{upTo}
 use Rattle.block.specs.Bytes.{areBytes}
 use Rattle.block.specs.Block.{sumsOf, checked, sealed}
 use Rattle.block.proofs.ByteLaws.{byte-at, checked-is, sealed-checked}
 use Rattle.setting.specs.declared.Field.{Field}
 use Rattle.setting.specs.declared.Setting.{Setting}
-use Rattle.setting.specs.Values.{right, between, fields, allRight, factorHigh, factorsLow, valueRows, storeRows, storable}
+use Rattle.setting.specs.Values.{right, between, fields, allRight, factor, factorHigh, factorsLow, valueRows, storeRows, storable}
+use Rattle.setting.specs.Worked.{plain, fallen}
 use Rattle.refusal.proofs.Stops.{none-gives, gives-none, gives-same}
 use Rattle.setting.proofs.LimitLaws.{storable-is}
 use Rattle.setting_block.specs.Layout.{settingAt, marked, spares, header, blockOf}
-use Rattle.setting_block.specs.Calls.{readRows, writeRows, writeOf, writeLeaves}
+use Rattle.setting_block.specs.Calls.{readRows, readOf, writeRows, writeOf, writeLeaves}
+use Rattle.setting_block.specs.Held.{ReadHeld, HeldRead, FallenRead}
 use Rattle.setting_block.specs.RoundTrip.{ReadThenWrite, WriteThenRead}
 use Rattle.setting_block.proofs.LayoutLaws.{spares-zero, zero-spares, body-is, header-length, header-marked, header-zero, setting-back}
 
@@ -55,6 +59,16 @@ writes-when : (v : Setting) (buffer : List ℕ) → noneApplies (writeRows v buf
 unfolding writeRows
 writes-when v buffer = each-++ (λ r. not (r .applies)) (storeRows v) ((13 when ltb (length buffer) 512) ∷ [])
 
+-- what the reader asks of a block whose values it gives
+asked : (s : List ℕ) (v : Setting) → readOf s ≡ gives v → T (hold (tests s))
+asked s v e = rw reads-when at (gives-none (readRows s) _ v e)
+
+pub read-held : ReadHeld
+unfolding ReadHeld
+read-held s v e =
+    let same : settingAt s ≡ v = gives-same (readRows s) (settingAt s) v e in
+    rw same at (hold-at (tests s) (asked s v e) 3)
+
 -- ---- a block that the reader accepts is the block of its values
 
 block-back : (s : List ℕ) → T (areBytes s) → T (hold (tests s)) → blockOf (settingAt s) ≡ s
@@ -65,12 +79,11 @@ block-back s bytes h =
     ap sealed (body-is s (byte-at s bytes) (omega arith) (at 2) (spares-zero s (at 4))) ∙ sym (checked-is s l (at 1))
 
 pub read-write : ReadThenWrite
-unfolding ReadThenWrite
+unfolding ReadThenWrite ReadHeld
 read-write s v bytes e buffer l =
     let same : settingAt s ≡ v = gives-same (readRows s) (settingAt s) v e in
-    let h : T (hold (tests s)) = rw reads-when at (gives-none (readRows s) _ v e) in
-    let ok : T (storable v) = rw same at (hold-at (tests s) h 3) in
-    let back : blockOf v ≡ s = rw same at (block-back s bytes h) in
+    let ok : T (storable v) = read-held s v e in
+    let back : blockOf v ≡ s = rw same at (block-back s bytes (asked s v e)) in
     let n : T (noneApplies (writeRows v buffer)) = rw (writes-when v buffer) (pair (storable v) _ ok (rw (le-ltb (length buffer) 512 l) tt)) in
     let written : writeOf v buffer ≡ done = none-gives (writeRows v buffer) n _ in
     (written, rw (written, back))
@@ -110,10 +123,22 @@ module _ (v : Setting) where
       let ok : storable v ≡ true = is-true h in
       rw (l, block-checked, m, values-back h, ok, z) tt
 
+pub held-read : HeldRead
+unfolding HeldRead
+held-read v ok = none-gives (readRows (blockOf v)) (rw reads-when (block-tests v ok)) _ ∙ ap gives (values-back v ok)
+
+fallen-storable : T (storable fallen)
+unfolding plain fallen factor factorHigh factorsLow valueRows nearest floor upTo
+fallen-storable = tt
+
+pub fallen-read : FallenRead
+unfolding FallenRead HeldRead
+fallen-read = held-read fallen fallen-storable
+
 pub write-read : WriteThenRead
-unfolding WriteThenRead
+unfolding WriteThenRead HeldRead
 write-read v buffer e =
     let n : T (noneApplies (writeRows v buffer)) = gives-none (writeRows v buffer) _ _ e in
     let ok : T (storable v) = split (storable v) _ (rw writes-when at n) .0 in
     let block : take 512 (writeLeaves v buffer) ≡ blockOf v = rw e (take-at (blockOf v) (drop 512 buffer) 512 (block-length v)) in
-    rw block (none-gives (readRows (blockOf v)) (rw reads-when (block-tests v ok)) _ ∙ ap gives (values-back v ok))
+    rw block (held-read v ok)

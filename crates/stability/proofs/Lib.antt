@@ -5,6 +5,7 @@ mod TripLaws
 mod TimerLaws
 mod FlagLaws
 mod Apartness
+mod FallenLaws
 mod Demand3
 mod Through
 mod Turned

@@ -9,7 +9,7 @@ use Rattle.integer.specs.Nearest.{nearest, floor}
 use Rattle.integer.specs.Sum.{sum}
 use Rattle.lists.specs.Lists.{upTo}
 use Rattle.integer.specs.Within.{eqZ}
-use Rattle.setting.specs.Values.{endOf, factorTop, factorUnder, factor, factorHigh, factorsLow, valueRows}
+use Rattle.setting.specs.Values.{endOf, factorTop, factorUnder, factor, factorHigh, factorsLow, startRows}
 use Rattle.setting.specs.Worked.{factory}
 use Rattle.matching.specs.Matching.{Three, three, operation, sum3}
 use Rattle.matching.specs.Sets.{System, sysA, sysB, sysC, seen, phases, filtered}
@@ -80,5 +80,5 @@ healthy =
     }
 
 pub through-fault : ThroughFault
-unfolding ThroughFault factory through factor factorHigh factorsLow valueRows nearest floor upTo setRows eqZ
+unfolding ThroughFault factory through factor factorHigh factorsLow startRows nearest floor upTo setRows eqZ
 through-fault = (tt, tt, healthy)

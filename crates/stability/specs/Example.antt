@@ -8,7 +8,7 @@ use lib.ListN.{replicate}
 use Rattle.bits.specs.Bits.{bitsOf, maskOf}
 use Rattle.page.specs.Events.{raised}
 use Rattle.setting.specs.declared.Setting.{Setting}
-use Rattle.setting.specs.Values.{startable, factor, factorHigh, factorsLow, valueRows}
+use Rattle.setting.specs.Values.{startable, factor, factorHigh, factorsLow, startRows}
 use Rattle.setting.specs.Worked.{plain, flagged}
 use Rattle.integer.specs.Nearest.{nearestAway, nearest, floor}
 use Rattle.integer.specs.Root.{rootBy}
@@ -47,7 +47,7 @@ tripped v cs = startable v ∷ latchAfter v cs sysA ∷ latchAfter v cs sysB ∷
 
 -- each of the two trips system 1 alone, the second with second-harmonic and common blocking on
 pub fault-trips : tripped plain fault ∷ tripped (flagged 5) beside ∷ [] ≡ (true ∷ true ∷ false ∷ false ∷ []) ∷ (true ∷ true ∷ false ∷ false ∷ []) ∷ []
-unfolding plain flagged fault beside ripple tripped latchAfter factor factorHigh factorsLow valueRows nearestAway nearest floor rootBy sum upTo
+unfolding plain flagged fault beside ripple tripped latchAfter factor factorHigh factorsLow startRows nearestAway nearest floor rootBy sum upTo
     operation operated matched seen matchedAt numbers t weightedSum cycle amplitude twiceRestraint harmonics holding blocked starts hasHarmonics
     holdsBack elementAfter fresh admissible windowWith setRows sampleRows backupAfter backupBy backupNow relayNow eqZ raised bitsOf maskOf readingOf readingsOf
 fault-trips = refl

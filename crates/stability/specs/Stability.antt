@@ -57,8 +57,8 @@ pub record Still (r : Relay) : Type 0 where
   pub no-start-flag : bitsOf (r .events .flags) .b0 ≡ false
   pub no-trip-flag : bitsOf (r .events .flags) .b1 ≡ false
 
--- Start a relay on any setting that it accepts, and take every list of sample and reset calls, reads and writes, refused ones included. Where each accepted
--- set is that of a healthy bank, no record of the list, the first included, has a latch or a flag of a start or trip, and every answer is calm:
--- nothing starts, nothing trips, and D keeps its limit.
+-- Start a relay on any setting that it can be started on (02, card 7), and take every list of sample and reset calls, reads and writes, refused ones
+-- included. Where each accepted set is that of a healthy bank, no record of the list, the first included, has a latch or a flag of a start or trip, and
+-- every answer is calm: nothing starts, nothing trips, and D keeps its limit.
 unfoldable pub Stability : Type 0
 Stability = (v : Setting) → T (startable v) → (cs : List Call) → Each (HealthyCall v) cs → Every Still (CalmCall v) (fresh v) cs
