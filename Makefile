@@ -81,7 +81,7 @@ host: build/host build/blocks build/fuzz build/edges
 
 # The bench program on the example, also where it comes in pieces of seven bytes, nothing, a block of zeros, half a setting block, a setting alone, and
 # a last block that is one byte short; then on each case of the second program: every refusal that it can meet, blocks of no sets and full ones, and
-# 200 streams drawn by chance.
+# 250 streams drawn by chance.
 bench: $(BENCH) build/bench
 	$(BENCH) < examples/faults.blocks | cmp - examples/faults.out
 	dd bs=7 status=none if=examples/faults.blocks | $(BENCH) | cmp - examples/faults.out
@@ -98,7 +98,7 @@ bench: $(BENCH) build/bench
 # Records of calls against the second program: each answer to a sample, a reset, a read or a write of the register page, with counters, latches, flags and
 # refusals; in some, parts of the record are changed between calls, within their rules and past them, so that refusal 12 is met; some come once more with
 # every sample negated. Setting blocks with up to six faults, every pair of neighbours in block order among them, and such values to start and writer: each
-# refusal with its offset.
+# refusal with its offset; slopes that fall, are level and rise, alone and with every other fault, in blocks, in values and in the record.
 calls: $(CALLS) build/calls
 	build/calls expect > build/calls.out
 	build/calls input | $(CALLS) | cmp - build/calls.out

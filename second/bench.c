@@ -12,7 +12,8 @@
 
 #define MOST_SETS (2 * BLOCK_SETS)
 #define MOST_BLOCKS 64
-#define DRAWN 200
+#define DRAWN 250           /* streams, */
+#define FALLING_FROM 200    /* and those with slopes that fall */
 
 /* What the program reads. */
 struct stream {
@@ -459,7 +460,7 @@ static void draw_sample_block(struct draw *d, const struct setting *s,
 }
 
 /* Stream number i: a setting block and up to eight sample blocks; two of five
- * end within a block. In one of four, slopes fall. */
+ * end within a block. In the last ones slopes fall. */
 static void drawn(struct stream *x, size_t i)
 {
     struct draw d = {0xBE7C4 + 0x9E3779B97F4A7C15ULL * i};
@@ -467,7 +468,7 @@ static void drawn(struct stream *x, size_t i)
     struct wave wave;
     int64_t blocks = draw_from(&d, 0, 8);
 
-    draw_setting_block(&d, i % 4 == 1, &s, next_block(x));
+    draw_setting_block(&d, i >= FALLING_FROM, &s, next_block(x));
     for (int64_t k = 0; k < blocks; k++) {
         if (k % 2 == 0)
             draw_wave(&d, &s, draw_spread(&d, 400, 40000), 0, &wave);

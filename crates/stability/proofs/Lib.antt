@@ -5,7 +5,7 @@ mod TripLaws
 mod TimerLaws
 mod FlagLaws
 mod Apartness
-mod FallenLaws
+mod SlopeLaws
 mod Demand3
 mod Through
 mod Turned

@@ -3,7 +3,7 @@ pub mod Trips
 pub mod Timers
 pub mod Flags
 pub mod Apart
-pub mod Fallen
+pub mod Slopes
 pub mod Stability
 pub mod Example
 pub mod ThroughFault

@@ -5,7 +5,7 @@ ghost use Rattle.stability.specs.Trips.{Latched, Counted};
 ghost use Rattle.stability.specs.Timers.{Summed, TimerTripped, NoneTrips};
 ghost use Rattle.stability.specs.Flags.{Noted};
 ghost use Rattle.stability.specs.Apart.{PageApart};
-ghost use Rattle.stability.specs.Fallen.{FallenDeclined};
+ghost use Rattle.stability.specs.Slopes.{FallingDeclined};
 ghost use Rattle.stability.specs.Stability.{Stability};
 ghost use Rattle.stability.specs.Example.{FaultUnhealthy};
 ghost use Rattle.stability.specs.ThroughFault.{ThroughFault};
@@ -39,8 +39,8 @@ pub fn apart()
 {}
 
 // A record whose slopes fall: each call of any list is declined, and the record stays.
-pub fn fallen()
-    ensures { λ _. ⌜ FallenDeclined ⌝ }
+pub fn slopes()
+    ensures { λ _. ⌜ FallingDeclined ⌝ }
 {}
 
 // Demand 3: no start, no trip, and D within its limit, over every list of calls whose accepted sets are those of a healthy bank.

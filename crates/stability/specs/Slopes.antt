@@ -21,5 +21,5 @@ DeclinedCall r (read offset) = readReply r offset ≡ firstOf (beyond offset ∷
 DeclinedCall r (write offset byte) = writeReply r offset ≡ firstRefusal (beyond offset ∷ fixed offset ∷ inadmissible ∷ [])
 
 -- From any record whose setting has m2 less than m1, whatever else it holds, and through any list of calls: each is declined, and the record stays as it was.
-unfoldable pub FallenDeclined : Type 0
-FallenDeclined = (r : Relay) → T (falling (r .setting .thresholds)) → (cs : List Call) → Every (λ s. s ≡ r) DeclinedCall r cs
+unfoldable pub FallingDeclined : Type 0
+FallingDeclined = (r : Relay) → T (falling (r .setting .thresholds)) → (cs : List Call) → Every (λ s. s ≡ r) DeclinedCall r cs

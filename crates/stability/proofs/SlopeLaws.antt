@@ -12,7 +12,7 @@ use Rattle.relay.specs.Record.{admissible}
 use Rattle.relay.specs.Calls.{sampleRows, resetRows}
 use Rattle.relay.specs.Page.{fixed, readRows, writeRows, written}
 use Rattle.relay.specs.Lists.{Call, sample, reset, read, write, after, Every}
-use Rattle.stability.specs.Fallen.{DeclinedCall, FallenDeclined}
+use Rattle.stability.specs.Slopes.{DeclinedCall, FallingDeclined}
 
 module _ (r : Relay) (f : T (falling (r .setting .thresholds))) where
   not-admissible : admissible r ≡ false
@@ -43,6 +43,6 @@ module _ (r : Relay) (f : T (falling (r .setting .thresholds))) where
   declined-list [] = refl
   declined-list (c ∷ cs) = (refl, (declined-call c, rw (call-leaves c) (declined-list cs)))
 
-pub fallen-declined : FallenDeclined
-unfolding FallenDeclined
-fallen-declined r f cs = declined-list r f cs
+pub falling-declined : FallingDeclined
+unfolding FallingDeclined
+falling-declined r f cs = declined-list r f cs
