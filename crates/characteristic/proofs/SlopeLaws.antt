@@ -1,20 +1,21 @@
 -- Past 2Q the third section adds m2 where the second section's line adds m1, from the same height at 2Q: where m2 is not less than m1, it lies no lower.
+-- Where m2 is less, it lies 200 lower at R = 2Q + 200, or more, and there is a multiple of 200 between the two.
 use mathlib.Core.Path.{_≡_, refl}
 use mathlib.Core.Bool.{true, and-false}
-use Prim.Native.Nat.{ℕ, _+_, _*_, _-_, _≤_, _<_}
+use Prim.Native.Nat.{ℕ, _+_, _*_, _-_, _/_, _≤_, _<_}
 use native.Mathlib.Nat.{le-refl, mul-le-mul}
 use native.Mathlib.Omega.{arith}
+use lib.Dec.{T, ltb→lt}
 use borrow.Author.Tests.{lt-leb, lt-ltb, ltb-true}
-use Rattle.integer.specs.Nearest.{nearest, floor}
-use Rattle.lists.specs.Lists.{upTo}
 use Rattle.setting.specs.declared.Setting.{Setting}
 use Rattle.setting.specs.declared.Thresholds.{Thresholds}
-use Rattle.setting.specs.Values.{factor, factorHigh, factorsLow, valueRows, startRows}
+use Rattle.setting.specs.Values.{storable, falling}
 use Rattle.setting.specs.Worked.{plain, fallen}
+use Rattle.setting.specs.Verdicts.{fallen-held, fallen-declined}
 use Rattle.setting.proofs.SlopeLaws.{slopes-rise}
-use Rattle.setting.proofs.LimitLaws.{startable-is}
+use Rattle.setting.proofs.LimitLaws.{storable-is, startable-is}
 use Rattle.characteristic.specs.Characteristic.{starts}
-use Rattle.characteristic.specs.Slopes.{NotMoreEager, FallenEager}
+use Rattle.characteristic.specs.Slopes.{secondLine, NotMoreEager, FallingEager, FallenEager}
 
 -- ---- a line of slope m1 from P, and one that goes on with m2 at Q2
 
@@ -48,6 +49,56 @@ not-more-eager v s D R late e =
     let early : t .basic ≤ 2 * t .knee = omega (arith, k .basic .most, k .knee .least) in
     omega (arith, no-higher (t .basic) (2 * t .knee) (t .slope1) (t .slope2) R early late (slopes-rise v s), past-third v D R early late e)
 
+-- ---- 200 past 2Q, where slopes fall
+
+module _ (v : Setting) (ok : T (storable v)) (fall : T (falling (v .thresholds))) where
+  abbrev t : Thresholds
+  t = v .thresholds
+
+  abbrev there : ℕ
+  there = 2 * t .knee + 200
+
+  -- one more than the third section's line there, in 200ths
+  abbrev just-past : ℕ
+  just-past = thirdLine t there / 200 + 1
+
+  early : t .basic ≤ 2 * t .knee
+  early = let k = storable-is v ok in omega (arith, k .basic .most, k .knee .least)
+
+  line-past : thirdLine t there < 200 * just-past
+  line-past = omega arith
+
+  starts-past : starts v just-past there ≡ true
+  unfolding starts
+  starts-past =
+      let past : t .basic < there = omega (arith, early) in
+      let late : 2 * t .knee < there = omega arith in
+      rw (
+        lt-leb there (t .basic) past,
+        lt-leb there (2 * t .knee) late,
+        lt-ltb (2 * t .knee) there late,
+        and-false,
+        lt-ltb (thirdLine t there) (200 * just-past) line-past,
+      )
+
+  below-second : 200 * just-past ≤ secondLine t there
+  below-second =
+      let less : t .slope2 < t .slope1 = ltb→lt (t .slope2) (t .slope1) fall in
+      let far : there - t .basic ≡ (2 * t .knee - t .basic) + 200 = omega (arith, early) in
+      let rest : there - 2 * t .knee ≡ 200 = omega arith in
+      rw (far, rest) (omega arith)
+
+pub falling-eager : FallingEager
+unfolding FallingEager
+falling-eager v ok fall =
+    record {
+      D = just-past v ok fall;
+      R = there v ok fall;
+      heavy = omega arith;
+      started = starts-past v ok fall;
+      not-above = below-second v ok fall;
+    }
+
 pub fallen-eager : FallenEager
-unfolding FallenEager plain fallen factor factorHigh factorsLow valueRows startRows starts nearest floor upTo
-fallen-eager = (refl, refl, refl, refl)
+unfolding FallenEager plain fallen starts
+fallen-eager = (fallen-held, fallen-declined, refl, refl)

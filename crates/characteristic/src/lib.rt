@@ -7,7 +7,7 @@ ghost use lib.Dec.{ltb};
 ghost use Rattle.characteristic.specs.Characteristic.{starts as startsOf, hasHarmonics, heldBy, counts as countsOf};
 ghost use Rattle.characteristic.specs.Products.{Wide, Product};
 ghost use Rattle.characteristic.specs.Bound.{QuietBound};
-ghost use Rattle.characteristic.specs.Slopes.{NotMoreEager, FallenEager};
+ghost use Rattle.characteristic.specs.Slopes.{NotMoreEager, FallingEager, FallenEager};
 use setting::Setting;
 
 // The currents of a system, in thousandths of reference current: D, R (twice the restraint), the second and the fifth harmonic.
@@ -126,7 +126,8 @@ pub fn quiet_bound()
     ensures { λ _. ⌜ QuietBound ⌝ }
 {}
 
-// No setting that a relay can be started on makes it more eager past the second section; slopes that fall would: no code, the statements and their proofs.
+// No setting that a relay can be started on makes it more eager past the second section, and each whose slopes fall would: no code, the statements and
+// their proofs.
 pub fn slopes()
-    ensures { λ _. ⌜ NotMoreEager × FallenEager ⌝ }
+    ensures { λ _. ⌜ NotMoreEager × FallingEager × FallenEager ⌝ }
 {}

@@ -10,9 +10,9 @@ use Rattle.integer.specs.Nearest.{nearestAway, nearest, floor}
 use Rattle.integer.specs.Root.{rootBy}
 use Rattle.integer.specs.Sum.{sum}
 use Rattle.lists.specs.Lists.{upTo}
-use Rattle.refusal.specs.Refusals.{byOutcome, firstRefusal}
 use Rattle.setting.specs.Values.{factor, factorHigh, factorsLow, startRows}
 use Rattle.setting.specs.Worked.{rated, twoEnds, plain}
+use Rattle.setting.specs.Verdicts.{toldBy}
 use Rattle.matching.specs.Matching.{Three, three, operation, operated, matched}
 use Rattle.matching.specs.Sets.{sysA, sysB, sysC, seen}
 use Rattle.amplitude.specs.Amplitude.{t, weightedSum, cycle, amplitude}
@@ -34,7 +34,7 @@ factorOf v i s = factor (twoEnds s (rated v i) (rated v i)) 0
 
 -- the number of the refusal of a setting with V 780 and S 1,351, by I of each end; 0 where it is accepted
 abbrev refusalOf : (current0 current1 : ℕ) → ℤ
-refusalOf i j = byOutcome (firstRefusal (startRows (twoEnds 1351 (rated 780 i) (rated 780 j)))) (λ told. pos (told .number)) (λ done. pos 0)
+refusalOf i j = pos (toldBy (startRows (twoEnds 1351 (rated 780 i) (rated 780 j))) .number)
 
 settings : List Worked
 settings =

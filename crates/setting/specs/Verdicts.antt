@@ -6,7 +6,7 @@ use mathlib.Core.Option.{some}
 use Prim.Native.Nat.{ℕ}
 use Rattle.integer.specs.Nearest.{nearest, floor}
 use Rattle.lists.specs.Lists.{upTo}
-use Rattle.refusal.specs.Refusals.{Told, alone, Row, byOutcome, firstRefusal}
+use Rattle.refusal.specs.Refusals.{Told, alone, Row, declines, byOutcome, done, firstRefusal}
 use Rattle.setting.specs.declared.Setting.{Setting}
 use Rattle.setting.specs.Values.{factor, factorHigh, factorsLow, valueRows, storeRows, startRows}
 use Rattle.setting.specs.Worked.{rated, blank, twoEnds, plain, flagged, sloped, fallen}
@@ -54,3 +54,12 @@ verdicts =
 pub verdicts-met : map (λ w. w .0) verdicts ≡ map (λ w. w .1) verdicts
 unfolding plain flagged fallen factor factorHigh factorsLow valueRows startRows nearest floor upTo
 verdicts-met = refl
+
+-- so that a block may hold m1 70 and m2 30, and a start declines them with 17
+pub fallen-held : firstRefusal (storeRows fallen) ≡ done
+unfolding plain fallen factor factorHigh factorsLow valueRows nearest floor upTo
+fallen-held = refl
+
+pub fallen-declined : firstRefusal (startRows fallen) ≡ declines (alone 17)
+unfolding plain fallen startRows
+fallen-declined = refl

@@ -13,15 +13,14 @@ use borrow.Author.Tests.{eq-eqb, le-ltb}
 use Rattle.lists.specs.Tests.{hold}
 use Rattle.lists.proofs.TestLaws.{split, pair, is-true, hold-at, each-++}
 use Rattle.refusal.specs.Refusals.{_when_, gives, done, noneApplies}
-use Rattle.integer.specs.Nearest.{nearest, floor}
-use Rattle.lists.specs.Lists.{upTo}
 use Rattle.block.specs.Bytes.{areBytes}
 use Rattle.block.specs.Block.{sumsOf, checked, sealed}
 use Rattle.block.proofs.ByteLaws.{byte-at, checked-is, sealed-checked}
 use Rattle.setting.specs.declared.Field.{Field}
 use Rattle.setting.specs.declared.Setting.{Setting}
-use Rattle.setting.specs.Values.{right, between, fields, allRight, factor, factorHigh, factorsLow, valueRows, storeRows, storable}
-use Rattle.setting.specs.Worked.{plain, fallen}
+use Rattle.setting.specs.Values.{right, between, fields, allRight, factorHigh, factorsLow, valueRows, storeRows, storable}
+use Rattle.setting.specs.Worked.{fallen}
+use Rattle.setting.specs.Verdicts.{fallen-held}
 use Rattle.refusal.proofs.Stops.{none-gives, gives-none, gives-same}
 use Rattle.setting.proofs.LimitLaws.{storable-is}
 use Rattle.setting_block.specs.Layout.{settingAt, marked, spares, header, blockOf}
@@ -127,13 +126,9 @@ pub held-read : HeldRead
 unfolding HeldRead
 held-read v ok = none-gives (readRows (blockOf v)) (rw reads-when (block-tests v ok)) _ ∙ ap gives (values-back v ok)
 
-fallen-storable : T (storable fallen)
-unfolding plain fallen factor factorHigh factorsLow valueRows nearest floor upTo
-fallen-storable = tt
-
 pub fallen-read : FallenRead
 unfolding FallenRead HeldRead
-fallen-read = held-read fallen fallen-storable
+fallen-read = held-read fallen (gives-none (storeRows fallen) _ _ fallen-held)
 
 pub write-read : WriteThenRead
 unfolding WriteThenRead HeldRead

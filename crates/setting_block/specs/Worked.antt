@@ -1,12 +1,12 @@
 -- Blocks with faults before byte 77, and what refusals 4 and 5 tell of each (document 02, cards 3 and 6), worked out by hand.
 use mathlib.Core.Path.{_≡_, refl}
 use mathlib.Core.List.{List, [], _∷_, _++_, map}
-use mathlib.Core.Option.{some}
 use Prim.Native.Nat.{ℕ}
 use lib.ListN.{set, take}
-use Rattle.refusal.specs.Refusals.{Told, alone, byOutcome, firstRefusal}
+use Rattle.refusal.specs.Refusals.{Told, alone}
 use Rattle.setting.specs.Values.{fields, valueRows}
 use Rattle.setting.specs.Worked.{factory}
+use Rattle.setting.specs.Verdicts.{toldBy, fieldAt}
 use Rattle.setting_block.specs.Layout.{settingAt, fewSpares, spare, header}
 
 -- bytes put at their offsets
@@ -18,10 +18,7 @@ changed s (x ∷ xs) = changed (set s (x .0) (x .1)) xs
 abbrev pub told : List (ℕ × ℕ) → Told
 told xs =
     let s = changed (header factory) xs in
-    byOutcome (firstRefusal (take 2 (valueRows (fields (settingAt s) ++ map (spare s) fewSpares) (settingAt s)))) (λ t. t) (λ done. alone 0)
-
-abbrev pub fieldAt : ℕ → Told
-fieldAt x = record { number = 5; offset = some x }
+    toldBy (take 2 (valueRows (fields (settingAt s) ++ map (spare s) fewSpares) (settingAt s)))
 
 abbrev pub faults : List (Told × Told)
 faults =
