@@ -48,8 +48,7 @@ pub fn start_verdict(v: Setting) -> Verdict
     ensures { λ r. ⌜ JudgesStart v r ⌝ }
 {
     let stored = verdict(v);
-    let t = v.thresholds;
-    if t.slope1 <= t.slope2 {
+    if v.thresholds.slope1 <= v.thresholds.slope2 {
         return stored;
     }
     if let Verdict::Refused(r) = stored {

@@ -17,7 +17,7 @@ verdict-requires c κs = search needs
 
 returns : tie.Need-returns
 returns c =
-    let s = c .before .before .before in
+    let s = c .before .before in
     let t = s .before .args .v .thresholds in
     let rise : t .slope1 ≤ t .slope2 = omega (arith, c .if1 .taken) in
     s .verdict .ensures ∙ sym (told-level (s .before .args .v) (le-ltb (t .slope2) (t .slope1) rise))
@@ -25,14 +25,14 @@ returns c =
 -- where slopes fall
 module _ (c : tie.Else1) where
   abbrev v : Setting
-  v = c .before .before .before .before .args .v
+  v = c .before .before .before .args .v
 
   fall : v .thresholds .slope2 < v .thresholds .slope1
   fall = omega (arith, c .if1 .left)
 
   -- what a block's rows tell
-  stored : {r : Verdict} → c .before .before .before .verdict .result ≡ r → outcomeOf r ≡ firstRefusal (storeRows v)
-  stored e = ap outcomeOf (sym e) ∙ c .before .before .before .verdict .ensures
+  stored : {r : Verdict} → c .before .before .verdict .result ≡ r → outcomeOf r ≡ firstRefusal (storeRows v)
+  stored e = ap outcomeOf (sym e) ∙ c .before .before .verdict .ensures
 
 enum-known-stored : tie.Need-enum-known-stored
 enum-known-stored c = search needs
