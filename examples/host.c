@@ -1,4 +1,5 @@
-/* How a C host calls the engine: a setting block is made, read, spoiled and read again; then two sample blocks are measured. Build after
+/* How a C host calls the engine: a setting block is made and read, two sample blocks are measured; the setting is spoiled and
+ * read again, and at last given slopes that fall, which can be read but not measured with. Build after
  * `rt staticlib host`:  gcc -Iinclude examples/host.c target/staticlib/libhost.a */
 #include <stdio.h>
 #include <string.h>
@@ -75,5 +76,10 @@ int main(void)
     seal(setting);
     printf("basic threshold 99: %u\n", (unsigned)tdp_read_setting(setting, sizeof setting));
     printf("short: %u\n", (unsigned)tdp_read_setting(setting, 511));
+    make_setting(setting);
+    put16(setting + 66, 29);
+    seal(setting);
+    printf("second slope 29, first 30: %u", (unsigned)tdp_read_setting(setting, sizeof setting));
+    printf(", measured %u\n", (unsigned)tdp_measure(setting, sizeof setting, NULL, 0));
     return 0;
 }

@@ -24,14 +24,14 @@ extern "C" {
 #endif
 
 /* Reads a setting block of `length` bytes: 0, or the number of the first refusal, 1 to 7. A block whose m2 is less than m1 answers 0 as well: it can
- * be stored, shown and written back; only the start of a relay declines it, with 17. To ask whether a relay can be started on a block, hand it to
- * tdp_measure with no sample block: the answer is the setting's refusal, or 1 for the block that is not there. */
+ * be stored, shown and written back; only the start of a relay declines it. So where this call answers 0, tdp_measure with a sample block of no bytes
+ * answers 17 if no relay can be started on the setting, and else 1, for the sample block. */
 uint32_t tdp_read_setting(const uint8_t *block, size_t length);
 
 /* Starts a fresh relay on a setting block and measures the sets of one sample block in turn: 100 plus the sum of 1, 2, 4 for the systems
  * (phases A, B, C) whose trip is latched after the last set, or the number of the first refusal: of the setting block, 1 to 7, then 17, then of
- * the sample block, then of each set. The answer is the differential element's; the overcurrent elements that bytes 74 to 76 of a setting turn on do not
- * show in it. */
+ * the sample block, then of each set. The answer is the differential element's; the overcurrent elements that bytes 74 to 76 of a setting turn
+ * on do not show in it. */
 uint32_t tdp_measure(const uint8_t *setting, size_t setting_length, const uint8_t *samples, size_t samples_length);
 
 #ifdef __cplusplus
