@@ -6,4 +6,5 @@ mod Parts
 mod OneEnd
 mod Weighing
 pub mod Total
+pub mod Tested
 pub mod Negated

@@ -11,7 +11,7 @@ use Rattle.integer.proofs.Reading.{ints, linear, _⇒_}
 use Rattle.integer.proofs.Laws.{ring, literals, within-≤, within-+, within-*, within-is, times-within, cancel-times}
 use Rattle.matching.specs.Matching.{Three, three, even, sum3, operated, matched}
 use Rattle.matching.specs.Sets.{fromNext}
-use Rattle.matching.specs.Bank.{NearIdeal}
+use Rattle.matching.specs.Bank.{ideal, NearIdeal}
 use Rattle.matching.specs.Weights.{own, next, parts}
 use Rattle.matching.specs.MatchingInput.{MatchedInput}
 use Rattle.matching.proofs.Forms.{_·_, Linear, linear-p, linear-n, linear-q, linear-form, linear-parts, linear-ideal, ideal-under}
@@ -112,12 +112,13 @@ module _ {K : ℤ} {g : ℕ} {x : Three} (s : MatchedInput K g x) (f : Bool) whe
   -- a healthy end: N / B is its k, w the currents of its limbs, c its common number
   module _ (N B : ℕ) (w : Three) (c : ℤ) where
     -- a sample that is near its ideal, by the form
-    near-form : (u : Three) (y : ℤ) → NearIdeal g f N B u c y →
+    near-form : (u : Three) (y : ℤ) → NearIdeal (ideal (even g) f g u) N B c y →
         err (1000 * (currentsUnder g f * N)) B (pos (currentsUnder g f * N) *ℤ c) y (currents g f · u) within (1000 * (currentsUnder g f * N))
     near-form u y h = (rw (linear-ideal (even g) f g .is u, ideal-under (even g) f g u own) at h) ⇒ simp ints (omega arith)
 
     pub one-end : 0 < B → Near K (pos (65536 * N)) B → sum3 w ≡ pos 0 → (f ≡ false → c ≡ pos 0) →
-        NearIdeal g f N B w c (x .p) → NearIdeal g f N B (fromNext w) c (x .n) → NearIdeal g f N B (fromNext (fromNext w)) c (x .q) →
+        let Close : Three → ℤ → Type 0 = λ u y. NearIdeal (ideal (even g) f g u) N B c y in
+        Close w (x .p) → Close (fromNext w) (x .n) → Close (fromNext (fromNext w)) (x .q) →
         (pos 1000 *ℤ matched K g f x -ℤ w .p) within 13000
     one-end hB eK hw hc p n q =
         let l = s .sampled .group in

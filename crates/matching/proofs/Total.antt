@@ -16,7 +16,7 @@ use Rattle.setting.specs.Values.{endOf, factorTop, factorUnder, factor, startab
 use Rattle.setting.proofs.LimitLaws.{startable-is}
 use Rattle.matching.specs.Matching.{Three, sum3}
 use Rattle.matching.specs.Sets.{System, sysA, sysB, sysC, fromNext, seen, phases, filtered, matchedAt}
-use Rattle.matching.specs.Bank.{NearIdeal, Healthy, InReach, total, TotalBound, MatchedBound}
+use Rattle.matching.specs.Bank.{idealAt, NearIdeal, Healthy, InReach, total, TotalBound, MatchedBound}
 use Rattle.matching.specs.MatchingInput.{MatchedInput}
 use Rattle.matching.proofs.OneEnd.{one-size, one-end}
 
@@ -57,7 +57,7 @@ module _ (v : Setting) (start : T (startable v)) (xs : List ℤ) (reach : InReac
       let e = endOf v z in
       let f = filtered e in
       let some : 0 < factorUnder v = omega (arith, startable-is v start .power .least) in
-      let near = around (λ x u. NearIdeal (e .group) f (factorTop e) (factorUnder v) u (bank .common z) (x .p)) (phases xs z) (bank .w z) (bank .near z h) l in
+      let near = around (λ x u. NearIdeal (idealAt e u) (factorTop e) (factorUnder v) (bank .common z) (x .p)) (phases xs z) (bank .w z) (bank .near z h) l in
       one-end (scaled z h l) f (factorTop e) (factorUnder v) (seen l (bank .w z)) (bank .common z) some
       (nearest-near (pos (65536 * factorTop e)) (factorUnder v) some)
       (seen-sum (bank .w z) l ⇒ bank .over-limbs z h ⇒ simp ints (omega arith))

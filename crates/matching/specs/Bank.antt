@@ -8,6 +8,7 @@ use lib.IntN.{ℤ, pos, _+ℤ_, _*ℤ_}
 use Rattle.integer.specs.Within.{_within_}
 use Rattle.integer.specs.Nearest.{Near}
 use Rattle.integer.specs.Sum.{sum}
+use Rattle.setting.specs.declared.End.{End}
 use Rattle.setting.specs.declared.Setting.{Setting}
 use Rattle.setting.specs.Values.{endOf, factorTop, factorUnder, startable}
 use Rattle.matching.specs.Matching.{Three, Quotient, operation, even, sum3}
@@ -19,11 +20,12 @@ unfoldable pub ideal : (isEven filter : Bool) → ℕ → Three → Quotient
 ideal true f g w = record { top = operation ((12 - g) % 12) (w .p) (w .n) (w .q); under = 1 }
 ideal false f g w = record { top = pos 1351 *ℤ operation ((12 - g) % 12) (w .p) (w .n) (w .q); under = 2340 }
 
--- The sample x lies within 1/2 of its ideal, which is ideal(w)/k + c thousandths of a unit, where k = N/B.
-abbrev pub NearIdeal : (g : ℕ) (filter : Bool) (N B : ℕ) (w : Three) (c x : ℤ) → Type 0
-NearIdeal g f N B w c x =
-    let i = ideal (even g) f g w in
-    Near x (pos B *ℤ i .top +ℤ pos (i .under * N) *ℤ c) (1000 * (i .under * N))
+abbrev pub idealAt : End → Three → Quotient
+idealAt e w = ideal (even (e .group)) (filtered e) (e .group) w
+
+-- The sample x lies within 1/2 of its ideal, which is i/k + c thousandths of a unit, where k = N/B.
+abbrev pub NearIdeal : (i : Quotient) (N B : ℕ) (c x : ℤ) → Type 0
+NearIdeal i N B c x = Near x (pos B *ℤ i .top +ℤ pos (i .under * N) *ℤ c) (1000 * (i .under * N))
 
 -- The set xs holds, within half a unit per sample, the currents of a healthy bank of the setting v.
 pub record Healthy (v : Setting) (xs : List ℤ) : Type 0 where
@@ -38,7 +40,7 @@ pub record Healthy (v : Setting) (xs : List ℤ) : Type 0 where
   pub unfiltered : (z : ℕ) → z < v .ends → filtered (endOf v z) ≡ false → common z ≡ pos 0
   -- each sample of an end in use lies within 1/2 of its ideal
   pub near : (z : ℕ) → z < v .ends → (l : System) →
-      NearIdeal (endOf v z .group) (filtered (endOf v z)) (factorTop (endOf v z)) (factorUnder v) (seen l (w z)) (common z) (seen l (phases xs z) .p)
+      NearIdeal (idealAt (endOf v z) (seen l (w z))) (factorTop (endOf v z)) (factorUnder v) (common z) (seen l (phases xs z) .p)
   -- others are zero
   pub others : (z : ℕ) → v .ends ≤ z → z < 4 → (l : System) → seen l (phases xs z) .p ≡ pos 0
 
