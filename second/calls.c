@@ -68,13 +68,14 @@
 
 enum scene_kind { HEALTHY, FAULT, INRUSH, BURSTS, NOISE, LONE, LOADS };
 
-/* One record: its blocks, whether all its sets are a healthy bank's, and
- * whether the relay record came through each refusal 12 and each begin block as it
- * was; and of a run the number of the measured set at which its element trips. */
+/* One record: its blocks, whether all its sets are a healthy bank's, and such a
+ * bank's with neutral current, and whether the relay record came through each refusal
+ * 12 and each begin block as it was; and of a run the number of the measured set at
+ * which its element trips. */
 struct record {
     uint8_t block[MOST_BLOCKS][BLOCK_BYTES];
     size_t blocks, calls, followed, trips_at;
-    int healthy, kept;
+    int healthy, neutral, kept;
 };
 
 /* What the calls of a record come to: the lines, the relay after them, sets
@@ -102,13 +103,13 @@ enum fault {
 /* What may be wrong with a page call, as bits: refusals 15, 16 and 12. */
 enum { BEYOND = 1, FIXED = 2, INADMISSIBLE = 4, PAGE_FAULTS = 8 };
 
-/* What a run has: records, those of healthy banks, answers to sample and reset
- * calls, refusals 12 by the call, changes by their part and by the fault that
- * they make; of the turned records how many there are, and their sets measured,
- * that start and that show a latch; and the counts of the records of common
- * blocking. */
+/* What a run has: records, those of healthy banks, those of them with neutral
+ * current, answers to sample and reset calls, refusals 12 by the call, changes by
+ * their part and by the fault that they make; of the turned records how many there
+ * are, and their sets measured, that start and that show a latch; and the counts of
+ * the records of common blocking. */
 static struct {
-    unsigned records, healthy, answers, declined[ASKED];
+    unsigned records, healthy, neutral, answers, declined[ASKED];
     unsigned changes[PART_KINDS][FAULTS], turned[4], common[4];
 } told;
 
@@ -237,6 +238,26 @@ static void most_sensitive(struct setting *s)
     s->flags = 0;
 }
 
+/* Puts the filter off at two ends, or at all. */
+static void put_filters_off(struct draw *d, struct setting *s)
+{
+    size_t a = (size_t)draw_from(d, 0, s->ends - 1);
+    size_t b = (a + (size_t)draw_from(d, 1, s->ends - 1)) % s->ends;
+    int all = draw_chance(d, 50);
+
+    for (size_t z = 0; z < s->ends; z++)
+        if (all || z == a || z == b)
+            s->end[z].filter = 0;
+}
+
+/* A healthy bank; half of those that can have neutral current have it. */
+static void draw_through(struct draw *d, struct scene *scene)
+{
+    draw_bank(d, &scene->setting, &scene->bank);
+    if (draw_chance(d, 50))
+        draw_neutral(d, &scene->setting, &scene->bank);
+}
+
 /* A fault of any size; but for plain faults with harmonics. */
 static void draw_fault(struct draw *d, struct scene *scene)
 {
@@ -264,7 +285,8 @@ static void aim_scene(struct draw *d, struct scene *scene)
 }
 
 /* Scene number i: kinds in turn, and for each kind all confirm counts in
- * turn; every third with factors that make halves; mostly low pick-up. */
+ * turn; every third with factors that make halves; mostly low pick-up. Most healthy
+ * banks have the filter off at two ends or more. */
 static void draw_scene(struct draw *d, size_t i, struct scene *scene)
 {
     static const enum scene_kind kind[10] = {HEALTHY, FAULT, INRUSH, BURSTS, NOISE,
@@ -280,9 +302,11 @@ static void draw_scene(struct draw *d, size_t i, struct scene *scene)
     s->pick_up = (uint16_t)draw_from(d, 100, draw_chance(d, 70) ? 600 : 2500);
     if (scene->kind == HEALTHY && draw_chance(d, 70))
         most_sensitive(s);
+    if (scene->kind == HEALTHY && draw_chance(d, 70))
+        put_filters_off(d, s);
     if (scene->kind == INRUSH)
         s->flags |= (uint8_t)draw_from(d, 1, 3);
-    draw_bank(d, s, &scene->bank);
+    draw_through(d, scene);
     draw_fault(d, scene);
     if (scene->kind == INRUSH && draw_chance(d, 40))
         aim_scene(d, scene);
@@ -606,6 +630,7 @@ static void build_calls(struct draw *d, size_t i, struct record *r)
 
     draw_scene(d, i, &scene);
     r->healthy = scene.kind == HEALTHY;
+    r->neutral = r->healthy && scene.bank.neutral;
     lay_setting(&scene.setting, next_block(r));
     while (r->calls < wanted) {
         int64_t kind = draw_from(d, 0, 99);
@@ -637,7 +662,7 @@ static void build_watched(struct draw *d, size_t i, struct record *r)
     s->pick_up = (uint16_t)draw_from(d, 100, 600);
     for (size_t z = 0; z < s->ends; z++)
         s->end[z].group = s->end[z].filter = 0;
-    draw_bank(d, s, &scene.bank);
+    draw_through(d, &scene);
     draw_fault(d, &scene);
     lay_setting(s, next_block(r));
     add_sets(d, &scene, r, (size_t)draw_from(d, 9, 12), 0);
@@ -1013,7 +1038,7 @@ static void say_answer(const struct answer *a, const struct relay *relay)
 }
 
 /* One sample call and its line; whether it is right for a healthy bank, which
- * raises no flag of a start or a trip. */
+ * raises no flag of a start or a trip, and never meets 12. */
 static int sample_call(struct relay *relay, const int16_t *list, size_t n)
 {
     struct answer a = {0};
@@ -1027,7 +1052,7 @@ static int sample_call(struct relay *relay, const int16_t *list, size_t n)
     count_flags(&before, relay, refusal);
     if (refusal != ACCEPTED) {
         say("refused %d\n", refusal);
-        return quiet;
+        return quiet && refusal != RECORD_WRONG;
     }
     if (a.filling == 0) {
         count_measured(&a);
@@ -2391,6 +2416,7 @@ static int put_expected(const struct record *r, struct outcome *out)
     heard = out;
     out->run = r->trips_at != 0;
     told.healthy += (unsigned)r->healthy;
+    told.neutral += (unsigned)r->neutral;
     for (size_t i = 0; i < r->blocks; i++) {
         const uint8_t *block = r->block[i];
 
@@ -2632,9 +2658,9 @@ static int slopes_told(void)
 }
 
 /* Tells what the run has; whether every kind of refusal 12 and of change is
- * among it, and turned records that start and latch. A change of the setting can
- * break 4 to 7 or 17, or leave a counter above M; one of another part breaks that
- * part's rule. */
+ * among it, turned records that start and latch, and healthy banks with neutral
+ * current. A change of the setting can break 4 to 7 or 17, or leave a counter above M;
+ * one of another part breaks that part's rule. */
 static int all_told(void)
 {
     const unsigned *s = told.changes[SETTING_PART], *f = told.changes[FILL_PART];
@@ -2645,11 +2671,12 @@ static int all_told(void)
                                s[BREAKS_17], s[COUNTER], f[FILL], v[NUMBER],
                                c[COUNTER], p[PAGE]};
 
-    fprintf(stderr, "calls: %u records, %u of healthy banks, %u answers to sample "
-            "and reset calls\n", told.records, told.healthy, told.answers);
+    fprintf(stderr, "calls: %u records, %u of healthy banks, %u of these with neutral "
+            "current, %u answers to sample and reset calls\n", told.records,
+            told.healthy, told.neutral, told.answers);
     fprintf(stderr, "calls: %u records turned, sets measured %u, started %u, latched "
             "%u\n", told.turned[0], told.turned[1], told.turned[2], told.turned[3]);
-    if (told.turned[2] == 0 || told.turned[3] == 0)
+    if (told.turned[2] == 0 || told.turned[3] == 0 || told.neutral == 0)
         return 0;
     return tell("refused 12", told.declined, ASKED) &
            tell("changes within the rules", within, 5) &

@@ -1,5 +1,7 @@
 #include "draw.h"
 
+#include <stdio.h>
+#include <stdlib.h>
 #include <string.h>
 
 /* Multiplied xorshift of 64 bits; the state must not be zero. */
@@ -430,23 +432,108 @@ void draw_bank(struct draw *d, const struct setting *s, struct bank *bank)
     }
 }
 
-/* Limb current at set k: a cosine, one on an offset, a square or noise. */
-static int64_t limb_current(struct draw *d, const struct bank *bank, size_t z,
-                            int limb, size_t k)
+/* How many ends have their filter off. */
+size_t unfiltered_ends(const struct setting *s)
 {
-    int64_t c = bank->cosine[z][limb], s = bank->sine[z][limb];
+    size_t n = 0;
+
+    for (size_t z = 0; z < s->ends; z++)
+        n += s->end[z].filter == 0;
+    return n;
+}
+
+/* The end of the largest factor among those with the filter off. */
+static size_t widest_unfiltered(const struct setting *s)
+{
+    size_t widest = MAX_ENDS;
+
+    for (size_t z = 0; z < s->ends; z++)
+        if (!s->end[z].filter &&
+            (widest == MAX_ENDS ||
+             matching_factor(s, z) > matching_factor(s, widest)))
+            widest = z;
+    return widest;
+}
+
+/* Neutral current at one end, up to a part of its reach: the same on all limbs, all
+ * on one of them, or split in any way. */
+static void draw_end_neutral(struct draw *d, const struct setting *s, size_t z,
+                             struct bank *bank)
+{
+    int64_t reach = end_reach(s, z) * draw_from(d, 1, 100) / 100;
+    int64_t split = draw_from(d, 0, 2), one = draw_from(d, 0, 2);
+
+    if (draw_chance(d, 20))
+        reach = reach < 2000000 ? reach : 2000000;
+    for (int limb = 0; limb < 3; limb++) {
+        bank->neutral_cosine[z][limb] = draw_from(d, -reach, reach);
+        bank->neutral_sine[z][limb] = draw_from(d, -reach, reach);
+        if (split == 0) {
+            bank->neutral_cosine[z][limb] = bank->neutral_cosine[z][0];
+            bank->neutral_sine[z][limb] = bank->neutral_sine[z][0];
+        } else if (split == 1 && limb != one) {
+            bank->neutral_cosine[z][limb] = bank->neutral_sine[z][limb] = 0;
+        }
+    }
+}
+
+/* Gives a bank neutral current (02, card 8) where two ends or more have the filter
+ * off, and tells whether. It flows in at one or more of them and leaves at the one of
+ * the largest factor: the end that balances the rest may have its filter on. Now and
+ * then there is no other current. */
+int draw_neutral(struct draw *d, const struct setting *s, struct bank *bank)
+{
+    size_t left = unfiltered_ends(s);
+
+    if (left < 2)
+        return 0;
+    bank->neutral = 1;
+    bank->neutral_shape = (unsigned)draw_from(d, 0, 3);
+    bank->neutral_balance = widest_unfiltered(s);
+    for (size_t z = 0; z < s->ends; z++)
+        if (!s->end[z].filter && z != bank->neutral_balance &&
+            (--left == 1 || draw_chance(d, 70)))
+            draw_end_neutral(d, s, z, bank);
+    if (draw_chance(d, 15)) {
+        memset(bank->cosine, 0, sizeof bank->cosine);
+        memset(bank->sine, 0, sizeof bank->sine);
+    }
+    return 1;
+}
+
+/* A limb current at set k: a cosine, one on an offset, a square or noise. */
+static int64_t limb_current(struct draw *d, unsigned shape, int64_t c, int64_t s,
+                            size_t k)
+{
     int64_t wave = c / 1560 * cycle(k) + s / 1560 * cycle(k + 9);
 
-    if (bank->shape == 0)
+    if (shape == 0)
         return wave + c % 1560;
-    if (bank->shape == 1)
+    if (shape == 1)
         return (wave + s) / 2 + c % 1560;
-    if (bank->shape == 2)
+    if (shape == 2)
         return k % 12 < 6 ? c : -c;
     return draw_from(d, c < 0 ? c : -c, c < 0 ? -c : c);
 }
 
-/* Whole numbers w that sum to zero over ends and over limbs. */
+/* Adds the neutral current: what flows in at an end leaves at another, limb by
+ * limb. */
+static void add_neutral(struct draw *d, const struct setting *s,
+                        const struct bank *bank, size_t k, int64_t w[MAX_ENDS][3])
+{
+    for (size_t z = 0; z < s->ends; z++)
+        for (int limb = 0; limb < 3; limb++) {
+            int64_t in = limb_current(d, bank->neutral_shape,
+                                      bank->neutral_cosine[z][limb],
+                                      bank->neutral_sine[z][limb], k);
+
+            w[z][limb] += in;
+            w[bank->neutral_balance][limb] -= in;
+        }
+}
+
+/* Whole numbers w that sum to zero over ends, and over limbs but for neutral
+ * current. */
 static void draw_limbs(struct draw *d, const struct setting *s,
                        const struct bank *bank, size_t k, int64_t w[MAX_ENDS][3])
 {
@@ -455,32 +542,37 @@ static void draw_limbs(struct draw *d, const struct setting *s,
         if (z == bank->balance)
             continue;
         for (int limb = 0; limb < 2; limb++)
-            w[z][limb] = limb_current(d, bank, z, limb, k);
+            w[z][limb] = limb_current(d, bank->shape, bank->cosine[z][limb],
+                                      bank->sine[z][limb], k);
         w[z][2] = -w[z][0] - w[z][1];
         for (int limb = 0; limb < 3; limb++)
             w[bank->balance][limb] -= w[z][limb];
     }
+    if (bank->neutral)
+        add_neutral(d, s, bank, k, w);
 }
 
 /* T(12-g) of the limb currents for one phase, times 2340; root three over
- * three is 1351/2340. */
-static int64_t line_current(const int64_t w[3], size_t phase, unsigned group)
+ * three is 1351/2340. At an odd group with the filter off a third of their sum comes
+ * on top. */
+static int64_t line_current(const int64_t w[3], size_t phase, const struct end *end)
 {
     int64_t p = w[phase], n = w[(phase + 1) % 3], q = w[(phase + 2) % 3];
+    int64_t third = end->filter ? 0 : 780 * (p + n + q);
 
-    switch ((12 - group) % 12) {
+    switch ((12 - end->group) % 12) {
     case 0: return 2340 * p;
     case 2: return -2340 * n;
     case 4: return 2340 * q;
     case 6: return -2340 * p;
     case 8: return 2340 * n;
     case 10: return -2340 * q;
-    case 1: return 1351 * (p - n);
-    case 3: return 1351 * (q - n);
-    case 5: return 1351 * (q - p);
-    case 7: return 1351 * (n - p);
-    case 9: return 1351 * (n - q);
-    default: return 1351 * (p - q);
+    case 1: return 1351 * (p - n) + third;
+    case 3: return 1351 * (q - n) + third;
+    case 5: return 1351 * (q - p) + third;
+    case 7: return 1351 * (n - p) + third;
+    case 9: return 1351 * (n - q) + third;
+    default: return 1351 * (p - q) + third;
     }
 }
 
@@ -502,47 +594,188 @@ static int64_t near_sample(struct draw *d, const struct setting *s, size_t z,
     return (int64_t)sample;
 }
 
-/* Samples of the bank's ends; 0 when one would be beyond the limit. */
-static int bank_samples(struct draw *d, const struct setting *s,
-                        const struct bank *bank, int64_t w[MAX_ENDS][3],
-                        int16_t list[SET_NUMBERS])
+/* Samples of one end; 0 when one would be beyond the limit. */
+static int end_samples(struct draw *d, const struct setting *s, size_t z,
+                       const struct currents *c, int16_t list[SET_NUMBERS])
 {
-    for (size_t z = 0; z < s->ends; z++) {
-        int64_t zero = bank->zero_sequence[z];
+    for (size_t phase = 0; phase < 3; phase++) {
+        int64_t line = line_current(c->w[z], phase, &s->end[z]);
+        int64_t sample = near_sample(d, s, z, line, c->common[z]);
 
-        if (s->end[z].filter && bank->shape == 3)
-            zero = draw_from(d, -zero, zero);
-        for (size_t phase = 0; phase < 3; phase++) {
-            int64_t line = line_current(w[z], phase, s->end[z].group);
-            int64_t sample = near_sample(d, s, z, line, zero);
-
-            if (sample > SAMPLE_LIMIT)
-                return 0;
-            list[3 * z + phase] = (int16_t)sample;
-        }
+        if (sample > SAMPLE_LIMIT)
+            return 0;
+        list[3 * z + phase] = (int16_t)sample;
     }
     return 1;
 }
 
-/* One set of a healthy bank, limb currents taken back until it fits. */
+/* The samples of a healthy bank's currents; 0 when one would be beyond the limit. */
+int near_set(struct draw *d, const struct setting *s, const struct currents *c,
+             int16_t list[SET_NUMBERS])
+{
+    memset(list, 0, SET_NUMBERS * sizeof list[0]);
+    for (size_t z = 0; z < s->ends; z++)
+        if (!end_samples(d, s, z, c, list))
+            return 0;
+    return 1;
+}
+
+/* Samples of the bank's ends, whose zero sequence is drawn where it is noise; 0 when
+ * one would be beyond the limit. */
+static int bank_samples(struct draw *d, const struct setting *s,
+                        const struct bank *bank, struct currents *c,
+                        int16_t list[SET_NUMBERS])
+{
+    for (size_t z = 0; z < s->ends; z++) {
+        c->common[z] = bank->zero_sequence[z];
+        if (s->end[z].filter && bank->shape == 3)
+            c->common[z] = draw_from(d, -c->common[z], c->common[z]);
+        if (!end_samples(d, s, z, c, list))
+            return 0;
+    }
+    return 1;
+}
+
+/* Every current of the bank by a tenth less. */
+static void lessen(const struct setting *s, struct bank *bank)
+{
+    for (size_t z = 0; z < s->ends; z++) {
+        for (int limb = 0; limb < 2; limb++) {
+            bank->cosine[z][limb] = bank->cosine[z][limb] * 9 / 10;
+            bank->sine[z][limb] = bank->sine[z][limb] * 9 / 10;
+        }
+        for (int limb = 0; limb < 3; limb++) {
+            bank->neutral_cosine[z][limb] = bank->neutral_cosine[z][limb] * 9 / 10;
+            bank->neutral_sine[z][limb] = bank->neutral_sine[z][limb] * 9 / 10;
+        }
+        bank->zero_sequence[z] = bank->zero_sequence[z] * 9 / 10;
+    }
+}
+
+/* One set of a healthy bank and its currents, taken back until it fits. Each is
+ * tested by what a healthy bank is: without neutral current it is one by 01 too. */
+void healthy_currents(struct draw *d, const struct setting *s,
+                      const struct bank *bank, size_t k, struct currents *c,
+                      int16_t list[SET_NUMBERS])
+{
+    struct bank part = *bank;
+
+    memset(list, 0, SET_NUMBERS * sizeof list[0]);
+    memset(c, 0, sizeof *c);
+    draw_limbs(d, s, &part, k, c->w);
+    while (!bank_samples(d, s, &part, c, list)) {
+        lessen(s, &part);
+        draw_limbs(d, s, &part, k, c->w);
+    }
+    if (healthy_by_02(s, c, list) && (bank->neutral || healthy_by_01(s, c, list)))
+        return;
+    fputs("draw: a set that is drawn for a healthy bank is not one of it\n", stderr);
+    exit(1);
+}
+
+/* One set of a healthy bank. */
 void healthy_set(struct draw *d, const struct setting *s, const struct bank *bank,
                  size_t k, int16_t list[SET_NUMBERS])
 {
-    struct bank part = *bank;
-    int64_t w[MAX_ENDS][3];
+    struct currents c;
 
-    memset(list, 0, SET_NUMBERS * sizeof list[0]);
-    draw_limbs(d, s, &part, k, w);
-    while (!bank_samples(d, s, &part, w, list)) {
-        for (size_t z = 0; z < s->ends; z++) {
-            for (int limb = 0; limb < 2; limb++) {
-                part.cosine[z][limb] = part.cosine[z][limb] * 9 / 10;
-                part.sine[z][limb] = part.sine[z][limb] * 9 / 10;
-            }
-            part.zero_sequence[z] = part.zero_sequence[z] * 9 / 10;
-        }
-        draw_limbs(d, s, &part, k, w);
+    healthy_currents(d, s, bank, k, &c, list);
+}
+
+/* ---- What a healthy bank is ---- */
+
+/* The w of a phase and of the next and the one before, in T(12-g), by g; of odd g
+ * times 1351/2340. */
+static const int8_t BACK[12][3] = {
+    {1, 0, 0},  {1, 0, -1}, {0, 0, -1}, {0, 1, -1}, {0, 1, 0},  {-1, 1, 0},
+    {-1, 0, 0}, {-1, 0, 1}, {0, 0, 1},  {0, -1, 1}, {0, -1, 0}, {1, -1, 0}};
+
+/* The sum of w over the limbs at an end. */
+int64_t limb_sum(const struct currents *c, size_t z)
+{
+    return c->w[z][0] + c->w[z][1] + c->w[z][2];
+}
+
+/* The ideal current of a phase of an end, in thousandths: T(12-g) of w, by card 8
+ * with a third of the sum of w at an odd group with the filter off; that divided by
+ * k, 1351 V I / (780,000 S); and the common number where the filter is on. */
+struct ratio ideal_current(const struct setting *s, size_t z, size_t phase,
+                           const struct currents *c, int card8)
+{
+    const struct end *e = &s->end[z];
+    const int64_t *w = c->w[z];
+    struct ratio ideal = {0, (__int128)1351 * e->voltage * e->current};
+
+    for (size_t i = 0; i < 3; i++)
+        ideal.top += BACK[e->group][i] * w[(phase + i) % 3];
+    if (e->group % 2 == 1) {
+        ideal.top = 1351 * ideal.top;
+        if (card8 && !e->filter)
+            ideal.top += 780 * limb_sum(c, z);
+        ideal.bottom *= 2340;
     }
+    ideal.top *= (__int128)780000 * s->power;
+    if (e->filter)
+        ideal.top += c->common[z] * ideal.bottom;
+    return ideal;
+}
+
+/* Whether a sample lies within 1/2, 500 thousandths, of its ideal. */
+static int within_half(int64_t sample, struct ratio ideal)
+{
+    __int128 apart = 1000 * sample * ideal.bottom - ideal.top;
+
+    return apart <= 500 * ideal.bottom && apart >= -500 * ideal.bottom;
+}
+
+/* Whether w sums to zero over the ends in use for each limb. */
+static int ends_balance(const struct setting *s, const struct currents *c)
+{
+    for (size_t limb = 0; limb < 3; limb++) {
+        int64_t sum = 0;
+
+        for (size_t z = 0; z < s->ends; z++)
+            sum += c->w[z][limb];
+        if (sum != 0)
+            return 0;
+    }
+    return 1;
+}
+
+/* Whether each sample of the ends in use is near its ideal, and the others are
+ * zero. */
+static int samples_near(const struct setting *s, const struct currents *c,
+                        const int16_t list[SET_NUMBERS], int card8)
+{
+    for (size_t i = 0; i < 3u * s->ends; i++)
+        if (!within_half(list[i], ideal_current(s, i / 3, i % 3, c, card8)))
+            return 0;
+    for (size_t i = 3u * s->ends; i < SET_NUMBERS; i++)
+        if (list[i] != 0)
+            return 0;
+    return 1;
+}
+
+/* Whether a set is a healthy bank's with these currents by document 02, card 8: w
+ * sums to zero over the ends for each limb, and over the limbs at each end with the
+ * filter on. */
+int healthy_by_02(const struct setting *s, const struct currents *c,
+                  const int16_t list[SET_NUMBERS])
+{
+    for (size_t z = 0; z < s->ends; z++)
+        if (s->end[z].filter && limb_sum(c, z) != 0)
+            return 0;
+    return ends_balance(s, c) && samples_near(s, c, list, 1);
+}
+
+/* The same by document 01 alone: over the limbs at every end, and no third. */
+int healthy_by_01(const struct setting *s, const struct currents *c,
+                  const int16_t list[SET_NUMBERS])
+{
+    for (size_t z = 0; z < s->ends; z++)
+        if (limb_sum(c, z) != 0)
+            return 0;
+    return ends_balance(s, c) && samples_near(s, c, list, 0);
 }
 
 /* ---- The register page ---- */

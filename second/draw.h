@@ -57,16 +57,46 @@ int aim_pick_up(const int16_t list[WINDOW_NUMBERS], size_t y, int64_t above,
                 struct setting *s);
 int16_t unloaded_sample(size_t k);
 
-/* Currents of a healthy bank at each set, in thousandths per limb. */
+/* Currents of a healthy bank at each set, in thousandths per limb; the end `balance`
+ * takes what the others leave. Neutral current (document 02, card 8) comes on top, at
+ * ends with the filter off; it has its own shape and its own end for the rest. */
 struct bank {
-    unsigned shape;
-    size_t balance;
+    unsigned shape, neutral_shape;
+    size_t balance, neutral_balance;
     int64_t cosine[MAX_ENDS][2], sine[MAX_ENDS][2];
     int64_t zero_sequence[MAX_ENDS];
+    int neutral;
+    int64_t neutral_cosine[MAX_ENDS][3], neutral_sine[MAX_ENDS][3];
 };
+size_t unfiltered_ends(const struct setting *s);
 void draw_bank(struct draw *d, const struct setting *s, struct bank *bank);
+int draw_neutral(struct draw *d, const struct setting *s, struct bank *bank);
 void healthy_set(struct draw *d, const struct setting *s, const struct bank *bank,
                  size_t k, int16_t list[SET_NUMBERS]);
+
+/* The numbers that a set of a healthy bank is made from, in thousandths: w by end and
+ * limb, and the number on all phases of each end that filters. */
+struct currents {
+    int64_t w[MAX_ENDS][3], common[MAX_ENDS];
+};
+void healthy_currents(struct draw *d, const struct setting *s,
+                      const struct bank *bank, size_t k, struct currents *c,
+                      int16_t list[SET_NUMBERS]);
+int near_set(struct draw *d, const struct setting *s, const struct currents *c,
+             int16_t list[SET_NUMBERS]);
+
+/* What a healthy bank is, by the words of document 02, card 8, and of document 01
+ * alone; apart from the drawing. The ideal current is in thousandths. */
+struct ratio {
+    __int128 top, bottom;
+};
+int64_t limb_sum(const struct currents *c, size_t z);
+struct ratio ideal_current(const struct setting *s, size_t z, size_t phase,
+                           const struct currents *c, int card8);
+int healthy_by_02(const struct setting *s, const struct currents *c,
+                  const int16_t list[SET_NUMBERS]);
+int healthy_by_01(const struct setting *s, const struct currents *c,
+                  const int16_t list[SET_NUMBERS]);
 
 /* A call of the register page: a read (write is 0), or a write of a value. */
 struct page_call {

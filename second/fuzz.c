@@ -38,7 +38,11 @@ static void draw_pair_setting(struct draw *d, struct setting *s)
         draw_overcurrent(d, (uint8_t)draw_from(d, 1, CURVES), s);
 }
 
-/* Up to 21 sets: a wave that sets in at some set, a healthy bank, or noise. */
+/* Pairs of healthy banks, and those of them with neutral current. */
+static unsigned long healthy, neutral;
+
+/* Up to 21 sets: a wave that sets in at some set, a healthy bank, half of those that
+ * can have neutral current with it, or noise. */
 static size_t draw_sets(struct draw *d, const struct setting *s, int16_t *list)
 {
     size_t sets = (size_t)(draw_chance(d, 80) ? draw_from(d, 12, BLOCK_SETS)
@@ -50,6 +54,10 @@ static size_t draw_sets(struct draw *d, const struct setting *s, int16_t *list)
 
     draw_wave(d, s, draw_spread(d, 100, 40000), (unsigned)draw_from(d, 0, 3), &wave);
     draw_bank(d, s, &bank);
+    if (draw_chance(d, 50))
+        draw_neutral(d, s, &bank);
+    healthy += kind == 7;
+    neutral += kind == 7 && bank.neutral;
     for (size_t k = 0; k < sets; k++) {
         int16_t *at = list + SET_NUMBERS * k;
 
@@ -252,7 +260,8 @@ int main(int argc, char **argv)
         if (i % 5 < 2)
             differ += !fall(&falling, i, &p, differ < SHOWN);
     }
-    printf("fuzz: %lu tried, %lu latched, %lu refused, %lu turned, %lu differ\n", count,
-           latched, refused, turned, differ);
+    printf("fuzz: %lu tried, %lu latched, %lu refused, %lu turned, %lu differ; %lu of "
+           "healthy banks, %lu of these with neutral current\n", count, latched,
+           refused, turned, differ, healthy, neutral);
     return !tell_fallen() || differ != 0;
 }
