@@ -27,6 +27,9 @@ not-not false h = h
 pub when : (a b : Bool) → T (cond a b true) → a ≡ true → T b
 when a b t e = rw e at t
 
+pub unless : (a b : Bool) → T (cond a true b) → a ≡ false → T b
+unless a b t e = rw e at t
+
 pub is-true : {b : Bool} → T b → b ≡ true
 is-true {b = true} h = refl
 is-true {b = false} h = absurd h

@@ -12,7 +12,7 @@ use Rattle.integer.proofs.Reading.{ints, linear}
 use Rattle.integer.proofs.Laws.{ring, within-≤, within-+, within-*, within-self}
 use Rattle.lists.proofs.Fill.{place}
 use Rattle.matching.specs.Matching.{Three, three, operation, sum3, lessZero, operated}
-use Rattle.matching.specs.Bank.{ideal}
+use Rattle.matching.specs.Bank.{lineCurrent, gained, ideal}
 use Rattle.matching.specs.Weights.{own, next, before, parts}
 -- the worked numbers, which are checked before what rests on the definitions
 use Rattle.matching.specs.Numbers as numbers
@@ -130,15 +130,22 @@ linear-parts false true g h = linear-times (pos 3) (linear-times (pos 780) (line
 linear-parts false false g h =
     linear-times (pos 1) (linear-+ (linear-times (pos 3) (linear-times (pos 780) (linear-group g h))) (linear-times (pos 1351) linear-sum))
 
+pub linear-line : (e : Bool) (g : ℕ) → Linear (λ w. lineCurrent e g w .top)
+unfolding lineCurrent
+linear-line true g = linear-group ((12 - g) % 12) (mod-lt (12 - g) (omega arith))
+linear-line false g = linear-times (pos 1351) (linear-group ((12 - g) % 12) (mod-lt (12 - g) (omega arith)))
+
 pub linear-ideal : (e f : Bool) (g : ℕ) → Linear (λ w. ideal e f g w .top)
-unfolding ideal
-linear-ideal true f g = linear-group ((12 - g) % 12) (mod-lt (12 - g) (omega arith))
-linear-ideal false f g = linear-times (pos 1351) (linear-group ((12 - g) % 12) (mod-lt (12 - g) (omega arith)))
+unfolding ideal gained lineCurrent
+linear-ideal true f g = linear-line true g
+linear-ideal false true g = linear-line false g
+linear-ideal false false g = linear-+ (linear-times (pos 3) (linear-line false g)) (linear-times (pos 2340) linear-sum)
 
 pub ideal-under : (e f : Bool) (g : ℕ) (w u : Three) → ideal e f g w .under ≡ ideal e f g u .under
-unfolding ideal
+unfolding ideal gained lineCurrent
 ideal-under true f g w u = refl
-ideal-under false f g w u = refl
+ideal-under false true g w u = refl
+ideal-under false false g w u = refl
 
 -- ---- sizes
 

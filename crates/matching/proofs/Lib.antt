@@ -7,4 +7,5 @@ mod OneEnd
 mod Weighing
 pub mod Total
 pub mod Tested
+pub mod NeutralLaws
 pub mod Negated

@@ -11,7 +11,7 @@ use Rattle.integer.proofs.Reading.{ints, linear, _⇒_}
 use Rattle.integer.proofs.Laws.{ring, literals, within-≤, within-+, within-*, within-is, times-within, cancel-times}
 use Rattle.matching.specs.Matching.{Three, three, even, sum3, operated, matched}
 use Rattle.matching.specs.Sets.{fromNext}
-use Rattle.matching.specs.Bank.{ideal, NearIdeal}
+use Rattle.matching.specs.Bank.{idealCurrent, NearIdeal}
 use Rattle.matching.specs.Weights.{own, next, parts}
 use Rattle.matching.specs.MatchingInput.{MatchedInput}
 use Rattle.matching.proofs.Forms.{_·_, Linear, linear-p, linear-n, linear-q, linear-form, linear-parts, linear-ideal, ideal-under}
@@ -79,12 +79,17 @@ linear-chain g f =
 regroup : (D e x y z : ℤ) → (D +ℤ e) *ℤ x +ℤ e *ℤ y +ℤ e *ℤ z ≡ D *ℤ x +ℤ e *ℤ (x +ℤ y +ℤ z)
 regroup D e x y z = simp ints (omega arith)
 
--- the matching undoes the bank's operation: w of the system's own limb is left, since the limbs sum to zero
-undone : {g : ℕ} {f : Bool} → GroupRow g f → (w : Three) → sum3 w ≡ pos 0 → chain g f w ≡ pos (currentsUnder g f * 4053) *ℤ w .p
+-- the sum of w is gone: with the filter it is zero, and without it the matching passes it to the limbs where it flows
+sum-gone : {g : ℕ} {f : Bool} → GroupRow g f → (w : Three) → (f ≡ true → sum3 w ≡ pos 0) → chain g f next *ℤ sum3 w ≡ pos 0
+sum-gone {g} {f = true} r w h = rw (h refl) (simp ints (omega arith))
+sum-gone {g} {f = false} r w h = rw (r .passed refl) (simp ints (omega arith))
+
+-- the matching undoes the bank's operation: w of the system's own limb is left
+undone : {g : ℕ} {f : Bool} → GroupRow g f → (w : Three) → (f ≡ true → sum3 w ≡ pos 0) → chain g f w ≡ pos (currentsUnder g f * 4053) *ℤ w .p
 unfolding _·_
 undone {g} {f} r w h =
     linear-chain g f .is w
-    ∙ rw (r .alone, r .level, regroup (pos (currentsUnder g f * 4053)) (chain g f next) (w .p) (w .n) (w .q), h) (simp ints (omega arith))
+    ∙ rw (r .alone, r .level, regroup (pos (currentsUnder g f * 4053)) (chain g f next) (w .p) (w .n) (w .q), sum-gone r w h) (simp ints (omega arith))
 
 -- the common number is gone, with the filter since the matching takes it out
 common-gone : {g : ℕ} {f : Bool} → GroupRow g f → (k : ℕ) (c : ℤ) → (f ≡ false → c ≡ pos 0) → sum3 (matching g f) *ℤ (pos k *ℤ c) ≡ pos 0
@@ -112,12 +117,12 @@ module _ {K : ℤ} {g : ℕ} {x : Three} (s : MatchedInput K g x) (f : Bool) whe
   -- a healthy end: N / B is its k, w the currents of its limbs, c its common number
   module _ (N B : ℕ) (w : Three) (c : ℤ) where
     -- a sample that is near its ideal, by the form
-    near-form : (u : Three) (y : ℤ) → NearIdeal (ideal (even g) f g u) N B c y →
+    near-form : (u : Three) (y : ℤ) → NearIdeal (idealCurrent g f N B u c) y →
         err (1000 * (currentsUnder g f * N)) B (pos (currentsUnder g f * N) *ℤ c) y (currents g f · u) within (1000 * (currentsUnder g f * N))
     near-form u y h = (rw (linear-ideal (even g) f g .is u, ideal-under (even g) f g u own) at h) ⇒ simp ints (omega arith)
 
-    pub one-end : 0 < B → Near K (pos (65536 * N)) B → sum3 w ≡ pos 0 → (f ≡ false → c ≡ pos 0) →
-        let Close : Three → ℤ → Type 0 = λ u y. NearIdeal (ideal (even g) f g u) N B c y in
+    pub one-end : 0 < B → Near K (pos (65536 * N)) B → (f ≡ true → sum3 w ≡ pos 0) → (f ≡ false → c ≡ pos 0) →
+        let Close : Three → ℤ → Type 0 = λ u y. NearIdeal (idealCurrent g f N B u c) y in
         Close w (x .p) → Close (fromNext w) (x .n) → Close (fromNext (fromNext w)) (x .q) →
         (pos 1000 *ℤ matched K g f x -ℤ w .p) within 13000
     one-end hB eK hw hc p n q =

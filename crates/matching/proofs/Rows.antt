@@ -9,10 +9,10 @@ use lib.IntN.{ℤ, pos, _+ℤ_}
 use Rattle.integer.specs.Within.{_within_, eqZ}
 use Rattle.lists.specs.Tests.{hold, every}
 use Rattle.integer.proofs.Laws.{within-≤, within-is, eqZ→≡}
-use Rattle.lists.proofs.TestLaws.{hold-at, every-at, when}
+use Rattle.lists.proofs.TestLaws.{hold-at, every-at, when, unless}
 use Rattle.matching.specs.Matching.{Three, three, operation, even, sum3, operated}
 use Rattle.matching.specs.Sets.{fromNext}
-use Rattle.matching.specs.Bank.{ideal}
+use Rattle.matching.specs.Bank.{lineCurrent, gained, ideal}
 use Rattle.matching.specs.Weights.{own, next, before, parts}
 use Rattle.matching.specs.MatchingInput.{OperationInput}
 use Rattle.matching.proofs.Forms.{_·_, formOf, linear-group, size, form-within}
@@ -49,6 +49,8 @@ pub record GroupRow (g : ℕ) (f : Bool) : Type 0 where
   -- the matching undoes the bank's operation, up to the same multiple of each limb
   pub alone : chain g f own ≡ pos (currentsUnder g f * 4053) +ℤ chain g f next
   pub level : chain g f before ≡ chain g f next
+  -- and with no such multiple where the filter is off
+  pub passed : f ≡ false → chain g f next ≡ pos 0
 
 -- the test of a pair
 facts : Bool → ℕ → List Bool
@@ -58,10 +60,11 @@ facts f g =
     ∷ cond f (eqZ (sum3 (matching g f)) (pos 0)) true
     ∷ eqZ (chain g f own) (pos (currentsUnder g f * 4053) +ℤ chain g f next)
     ∷ eqZ (chain g f before) (chain g f next)
+    ∷ cond f true (eqZ (chain g f next) (pos 0))
     ∷ []
 
 checked : (f : Bool) → T (every 12 (λ g. hold (facts f g)))
-unfolding facts eqZ operated ideal operation _·_
+unfolding facts eqZ operated lineCurrent gained ideal operation _·_
 checked true = tt
 checked false = tt
 
@@ -75,6 +78,7 @@ groupRow g f l =
       flat = λ e. eqZ→≡ _ _ (when f _ (at 2) e);
       alone = eqZ→≡ _ _ (at 3);
       level = eqZ→≡ _ _ (at 4);
+      passed = λ e. eqZ→≡ _ _ (unless f _ (at 5) e);
     }
 
 -- ---- the twelve groups: the sizes of the coefficients sum to at most 2

@@ -6,17 +6,17 @@ use Prim.Native.Nat.{ℕ, _*_, _≤_, _<_}
 use native.Mathlib.Omega.{arith}
 use lib.Dec.{T, leb, leb→le}
 use borrow.Author.Tests.{le-leb}
-use lib.IntN.{ℤ, pos, natAbs, _+ℤ_, _*ℤ_, _-ℤ_}
+use lib.IntN.{ℤ, pos, natAbs, _*ℤ_, _-ℤ_}
 use Rattle.integer.specs.Within.{_within_, eqZ}
 use Rattle.integer.specs.Sum.{sum}
 use Rattle.integer.proofs.Laws.{eqZ→≡}
 use Rattle.lists.specs.Tests.{hold, every}
-use Rattle.lists.proofs.TestLaws.{hold-at, every-at, when}
+use Rattle.lists.proofs.TestLaws.{hold-at, every-at, when, unless}
 use Rattle.setting.specs.declared.Setting.{Setting}
 use Rattle.setting.specs.Values.{endOf, factorTop, factorUnder}
-use Rattle.matching.specs.Matching.{Three, sum3}
+use Rattle.matching.specs.Matching.{Three, Quotient, sum3}
 use Rattle.matching.specs.Sets.{System, sysA, sysB, sysC, index, system, seen, phases, filtered}
-use Rattle.matching.specs.Bank.{idealAt, Healthy}
+use Rattle.matching.specs.Bank.{idealCurrent, Healthy}
 
 -- a test at each of the three systems
 abbrev systems : (System → Bool) → Bool
@@ -27,33 +27,27 @@ systems-at t h sysA = every-at 3 (λ y. t (system y)) h 0 (omega arith)
 systems-at t h sysB = every-at 3 (λ y. t (system y)) h 1 (omega arith)
 systems-at t h sysC = every-at 3 (λ y. t (system y)) h 2 (omega arith)
 
-unless : (a b : Bool) → T (cond a true b) → a ≡ false → T b
-unless a b t e = rw e at t
-
 -- the currents w of the limbs and the common numbers of the ends
 module _ (v : Setting) (w : ℕ → Three) (common : ℕ → ℤ) (xs : List ℤ) where
-  -- twice the error of a sample, and what it may be at most
-  abbrev far : ℕ → System → ℤ
-  far z l =
-      let i = idealAt (endOf v z) (seen l (w z)) in
-      let N = factorTop (endOf v z) in
-      pos 2 *ℤ (pos (1000 * (i .under * N)) *ℤ seen l (phases xs z) .p -ℤ (pos (factorUnder v) *ℤ i .top +ℤ pos (i .under * N) *ℤ common z))
+  -- the ideal current of a phase, and twice the error of its sample
+  abbrev ideally : ℕ → System → Quotient
+  ideally z l = let e = endOf v z in idealCurrent (e .group) (filtered e) (factorTop e) (factorUnder v) (seen l (w z)) (common z)
 
-  abbrev most : ℕ → System → ℕ
-  most z l = 1000 * (idealAt (endOf v z) (seen l (w z)) .under * factorTop (endOf v z))
+  abbrev error : ℕ → System → ℤ
+  error z l = let i = ideally z l in pos 2 *ℤ (pos (1000 * i .under) *ℤ seen l (phases xs z) .p -ℤ i .top)
 
   -- what is tested of a limb, of an end in use, of one of its samples, and of an end that is not in use
   abbrev over-ends : System → Bool
   over-ends l = eqZ (sum (v .ends) (λ z. seen l (w z) .p)) (pos 0)
 
   abbrev over-limbs : ℕ → Bool
-  over-limbs z = eqZ (sum3 (w z)) (pos 0)
+  over-limbs z = cond (filtered (endOf v z)) (eqZ (sum3 (w z)) (pos 0)) true
 
   abbrev unfiltered : ℕ → Bool
   unfiltered z = cond (filtered (endOf v z)) true (eqZ (common z) (pos 0))
 
   abbrev near : ℕ → System → Bool
-  near z l = leb (natAbs (far z l)) (most z l)
+  near z l = leb (natAbs (error z l)) (1000 * ideally z l .under)
 
   abbrev other : ℕ → System → Bool
   other z l = eqZ (seen l (phases xs z) .p) (pos 0)
@@ -77,7 +71,7 @@ module _ (v : Setting) (w : ℕ → Three) (common : ℕ → ℤ) (xs : List ℤ
       record {
         w = w;
         over-ends = λ l. eqZ→≡ _ _ (systems-at over-ends (at 0) l);
-        over-limbs = λ z k. eqZ→≡ _ _ (every-at (v .ends) over-limbs (at 1) z k);
+        over-limbs = λ z k e. eqZ→≡ _ _ (when _ (eqZ (sum3 (w z)) (pos 0)) (every-at (v .ends) over-limbs (at 1) z k) e);
         common = common;
         unfiltered = λ z k e. eqZ→≡ _ _ (unless _ (eqZ (common z) (pos 0)) (every-at (v .ends) unfiltered (at 2) z k) e);
         near = λ z k l. record { size = leb→le _ _ (systems-at (near z) (every-at (v .ends) (λ z. systems (near z)) (at 3) z k) l) };

@@ -1,4 +1,4 @@
--- A healthy bank (document 01, "A healthy bank"), and the bound that its sets have.
+-- A healthy bank (document 01, "A healthy bank"; with neutral current, document 02, card 8), and the bound that its sets have.
 use mathlib.Core.Path.{_≡_}
 use mathlib.Core.Bool.{Bool, true, false}
 use mathlib.Core.List.{List}
@@ -8,24 +8,45 @@ use lib.IntN.{ℤ, pos, _+ℤ_, _*ℤ_}
 use Rattle.integer.specs.Within.{_within_}
 use Rattle.integer.specs.Nearest.{Near}
 use Rattle.integer.specs.Sum.{sum}
-use Rattle.setting.specs.declared.End.{End}
 use Rattle.setting.specs.declared.Setting.{Setting}
 use Rattle.setting.specs.Values.{endOf, factorTop, factorUnder, startable}
 use Rattle.matching.specs.Matching.{Three, Quotient, operation, even, sum3}
 use Rattle.matching.specs.Sets.{System, seen, phases, filtered, matchedAt}
 
--- The ideal line currents at an end of group g, times k: T(12 − g) of w (T(0) for g = 0), 1351/2340 times at odd groups. A phase sees the
--- limbs as its system does. They are the same with the filter on and off.
+-- ---- the ideal line current of a phase, in thousandths of a unit, step by step; a phase sees the limbs as its system does
+
+-- T(12 − g) of w (T(0) for g = 0), 1351/2340 times at odd groups
+unfoldable pub lineCurrent : (isEven : Bool) → ℕ → Three → Quotient
+lineCurrent true g w = record { top = operation ((12 - g) % 12) (w .p) (w .n) (w .q); under = 1 }
+lineCurrent false g w = record { top = pos 1351 *ℤ operation ((12 - g) % 12) (w .p) (w .n) (w .q); under = 2340 }
+
+-- one third of s more
+abbrev pub plusThird : Quotient → ℤ → Quotient
+plusThird i s = record { top = pos 3 *ℤ i .top +ℤ pos (i .under) *ℤ s; under = 3 * i .under }
+
+-- With the filter off, an odd group gains one third of the sum of w over the limbs (02, card 8).
+unfoldable pub gained : (isEven filter : Bool) → Quotient → (s : ℤ) → Quotient
+gained true f i s = i
+gained false true i s = i
+gained false false i s = plusThird i s
+
 unfoldable pub ideal : (isEven filter : Bool) → ℕ → Three → Quotient
-ideal true f g w = record { top = operation ((12 - g) % 12) (w .p) (w .n) (w .q); under = 1 }
-ideal false f g w = record { top = pos 1351 *ℤ operation ((12 - g) % 12) (w .p) (w .n) (w .q); under = 2340 }
+ideal e f g w = gained e f (lineCurrent e g w) (sum3 w)
 
-abbrev pub idealAt : End → Three → Quotient
-idealAt e w = ideal (even (e .group)) (filtered e) (e .group) w
+-- divided by k = N/B
+abbrev pub overK : (N B : ℕ) → Quotient → Quotient
+overK N B i = record { top = pos B *ℤ i .top; under = i .under * N }
 
--- The sample x lies within 1/2 of its ideal, which is i/k + c thousandths of a unit, where k = N/B.
-abbrev pub NearIdeal : (i : Quotient) (N B : ℕ) (c x : ℤ) → Type 0
-NearIdeal i N B c x = Near x (pos B *ℤ i .top +ℤ pos (i .under * N) *ℤ c) (1000 * (i .under * N))
+-- the common number c, added
+abbrev pub plus : Quotient → ℤ → Quotient
+plus i c = record { top = i .top +ℤ pos (i .under) *ℤ c; under = i .under }
+
+abbrev pub idealCurrent : (g : ℕ) (filter : Bool) (N B : ℕ) (w : Three) (c : ℤ) → Quotient
+idealCurrent g f N B w c = plus (overK N B (ideal (even g) f g w)) c
+
+-- a sample of x units lies within 1/2 of i thousandths
+abbrev pub NearIdeal : Quotient → ℤ → Type 0
+NearIdeal i x = Near x (i .top) (1000 * i .under)
 
 -- The set xs holds, within half a unit per sample, the currents of a healthy bank of the setting v.
 pub record Healthy (v : Setting) (xs : List ℤ) : Type 0 where
@@ -33,14 +54,15 @@ pub record Healthy (v : Setting) (xs : List ℤ) : Type 0 where
   pub w : ℕ → Three
   -- they sum to zero over the ends for each limb
   pub over-ends : (l : System) → sum (v .ends) (λ z. seen l (w z) .p) ≡ pos 0
-  -- and over the limbs at each end
-  pub over-limbs : (z : ℕ) → z < v .ends → sum3 (w z) ≡ pos 0
+  -- and over the limbs at each end with the filter on; with the filter off they may sum to anything (02, card 8)
+  pub over-limbs : (z : ℕ) → z < v .ends → filtered (endOf v z) ≡ true → sum3 (w z) ≡ pos 0
   -- one more whole number of thousandths at each end with the filter on, the same on its three phases
   pub common : ℕ → ℤ
   pub unfiltered : (z : ℕ) → z < v .ends → filtered (endOf v z) ≡ false → common z ≡ pos 0
   -- each sample of an end in use lies within 1/2 of its ideal
   pub near : (z : ℕ) → z < v .ends → (l : System) →
-      NearIdeal (idealAt (endOf v z) (seen l (w z))) (factorTop (endOf v z)) (factorUnder v) (common z) (seen l (phases xs z) .p)
+      let e = endOf v z in
+      NearIdeal (idealCurrent (e .group) (filtered e) (factorTop e) (factorUnder v) (seen l (w z)) (common z)) (seen l (phases xs z) .p)
   -- others are zero
   pub others : (z : ℕ) → v .ends ≤ z → z < 4 → (l : System) → seen l (phases xs z) .p ≡ pos 0
 

@@ -1,13 +1,14 @@
--- Worked numbers of the matching at every group, by source 001: one table, and one lemma over it. Those that document 01 marks (T) stand in the
--- crate `measuring`.
+-- Worked numbers at every group: of the matching, by source 001, and of the ideal currents of a bank, by documents 01 and 02. Each is one table, and one
+-- lemma over it. Those that document 01 marks (T) stand in the crate `measuring`.
 use mathlib.Core.Path.{_≡_, refl}
 use mathlib.Core.Bool.{Bool, true, false}
 use mathlib.Core.List.{List, [], _∷_, map}
 use Prim.Native.Nat.{ℕ}
-use lib.IntN.{ℤ, pos, negℤ}
+use lib.IntN.{ℤ, pos, negℤ, _*ℤ_}
 use Rattle.integer.specs.Nearest.{floor, nearest, nearestAway}
-use Rattle.matching.specs.Matching.{Three, three, operation, operated, matched}
-use Rattle.matching.specs.Sets.{sysA, sysB, sysC, seen}
+use Rattle.matching.specs.Matching.{Three, three, Quotient, operation, operated, matched}
+use Rattle.matching.specs.Sets.{System, sysA, sysB, sysC, seen}
+use Rattle.matching.specs.Bank.{lineCurrent, gained, ideal, idealCurrent}
 
 abbrev neg : ℕ → ℤ
 neg n = negℤ (pos n)
@@ -67,3 +68,56 @@ groups =
 groups-met : map (λ r. r .0) groups ≡ map (λ r. r .1) groups
 unfolding groups trio seen matched operated operation nearestAway nearest floor
 groups-met = refl
+
+-- ---- 01, "A healthy bank", and 02, card 8: the ideal line currents of a bank, at every group
+
+-- currents of the limbs that are all different and sum to 9360
+abbrev limbs : Three
+limbs = three (pos 14040) (pos 4680) (neg 9360)
+
+-- what the definition gives for the phases A, B, C of an end of k 2, and the numbers to meet, over the same
+abbrev lines : (filter : Bool) (common g : ℕ) (a b c : ℤ) → Worked
+lines f common g a b c =
+    let i : System → Quotient = λ l. idealCurrent g f 2 1 (seen l limbs) (pos common) in
+    let over : System → ℤ = λ l. pos (i l .under) in
+    ((three (i sysA .top) (i sysB .top) (i sysC .top)), (three (over sysA *ℤ a) (over sysB *ℤ b) (over sysC *ℤ c)))
+
+abbrev lineOff : (g : ℕ) (a b c : ℤ) → Worked
+lineOff = lines false 0
+
+abbrev lineOn : (g : ℕ) (a b c : ℤ) → Worked
+lineOn = lines true 1000
+
+-- The numbers to meet were worked out from the words: T(12 − g) of the limbs, 1351/2340 times at odd groups; with the filter off 3120 more at odd groups;
+-- half of that, as k is 2; with the filter on 1000 more.
+currents : List Worked
+currents =
+    lineOff 0 (pos 7020) (pos 2340) (neg 4680)
+    ∷ lineOff 1 (pos 8315) (neg 1142) (neg 2493)
+    ∷ lineOff 2 (pos 4680) (neg 7020) (neg 2340)
+    ∷ lineOff 3 (pos 5613) (neg 5195) (pos 4262)
+    ∷ lineOff 4 (pos 2340) (neg 4680) (pos 7020)
+    ∷ lineOff 5 (neg 1142) (neg 2493) (pos 8315)
+    ∷ lineOff 6 (neg 7020) (neg 2340) (pos 4680)
+    ∷ lineOff 7 (neg 5195) (pos 4262) (pos 5613)
+    ∷ lineOff 8 (neg 4680) (pos 7020) (pos 2340)
+    ∷ lineOff 9 (neg 2493) (pos 8315) (neg 1142)
+    ∷ lineOff 10 (neg 2340) (pos 4680) (neg 7020)
+    ∷ lineOff 11 (pos 4262) (pos 5613) (neg 5195)
+    ∷ lineOn 0 (pos 8020) (pos 3340) (neg 3680)
+    ∷ lineOn 1 (pos 7755) (neg 1702) (neg 3053)
+    ∷ lineOn 2 (pos 5680) (neg 6020) (neg 1340)
+    ∷ lineOn 3 (pos 5053) (neg 5755) (pos 3702)
+    ∷ lineOn 4 (pos 3340) (neg 3680) (pos 8020)
+    ∷ lineOn 5 (neg 1702) (neg 3053) (pos 7755)
+    ∷ lineOn 6 (neg 6020) (neg 1340) (pos 5680)
+    ∷ lineOn 7 (neg 5755) (pos 3702) (pos 5053)
+    ∷ lineOn 8 (neg 3680) (pos 8020) (pos 3340)
+    ∷ lineOn 9 (neg 3053) (pos 7755) (neg 1702)
+    ∷ lineOn 10 (neg 1340) (pos 5680) (neg 6020)
+    ∷ lineOn 11 (pos 3702) (pos 5053) (neg 5755)
+    ∷ []
+
+currents-met : map (λ r. r .0) currents ≡ map (λ r. r .1) currents
+unfolding currents seen ideal gained lineCurrent operation
+currents-met = refl

@@ -7,6 +7,7 @@ ghost use Rattle.matching.specs.Sets.{numbers as numbersOf};
 ghost use Rattle.matching.specs.Weights.{parts, weightsAt, weightsOf, weighed, weighedTrio};
 ghost use Rattle.matching.specs.MatchingInput.{OperationInput, OperatedInput, FactorsInput, WeighedInput, EndInput, SetInput};
 ghost use Rattle.matching.specs.Bank.{TotalBound, MatchedBound};
+ghost use Rattle.matching.specs.Neutral.{Widened, NeutralBefore};
 use setting::Setting;
 
 // The matched numbers of an end for systems 1, 2 and 3.
@@ -171,4 +172,9 @@ pub fn numbers(v: Setting, ws: [i64; 12], set: &[i16]) -> [i32; 12]
 // The bounds of a healthy set and of any accepted one: no code, the statements and their proofs.
 pub fn bounds()
     ensures { λ _. ⌜ TotalBound × MatchedBound ⌝ }
+{}
+
+// Neutral current: the bank without it is the case of sums that are zero, and its unfiltered ends show none: no code, the statements and their proofs.
+pub fn neutral()
+    ensures { λ _. ⌜ Widened × NeutralBefore ⌝ }
 {}

@@ -7,7 +7,7 @@ use lib.Dec.{T, leb, eqb, leb→le, eqb→eq}
 use lib.ListN.{getD}
 use lib.IntN.{ℤ, pos}
 use lib.Signed.{leZ, leZ-yes, _≤ℤ_}
-use borrow.Author.Tests.{eqb-false}
+use borrow.Author.Tests.{eqb-false, lt-ltb}
 use Rattle.integer.specs.Within.{_within_}
 use Rattle.lists.specs.Tests.{each}
 use Rattle.integer.proofs.Reading.{ints}
@@ -53,6 +53,10 @@ pub record Bounded (e : End) : Type 0 where
   pub current : e .current ≤ 50000
   pub group : e .group < 12
 
+pub record InUse (e : End) : Type 0 where
+  pub voltage : 1 ≤ e .voltage
+  pub current : 1 ≤ e .current
+
 module _ (v : Setting) (h : T (allRight (fields v))) where
   field-at : (k : ℕ) → Kept (getD (fields v) k (0, true, 0, 0, 0))
   field-at k = each-get (test-each right kept (fields v) h) {d = (0, true, 0, 0, 0)} (kept (0, true, 0, 0, 0) tt) k
@@ -66,6 +70,14 @@ module _ (v : Setting) (h : T (allRight (fields v))) where
   bounded (suc (suc zero)) l = record { voltage = field-at 11 .most; current = field-at 12 .most; group = omega (arith, field-at 13 .most) }
   bounded (suc (suc (suc zero))) l = record { voltage = field-at 15 .most; current = field-at 16 .most; group = omega (arith, field-at 17 .most) }
   bounded (suc (suc (suc (suc z)))) l = absurd (omega arith)
+
+  -- an end in use has a voltage and a current
+  in-use : v .ends ≤ 4 → (z : ℕ) → z < v .ends → InUse (endOf v z)
+  in-use m zero l = let u = lt-ltb 0 (v .ends) l in record { voltage = field-at 3 .least u; current = field-at 4 .least u }
+  in-use m (suc zero) l = let u = lt-ltb 1 (v .ends) l in record { voltage = field-at 7 .least u; current = field-at 8 .least u }
+  in-use m (suc (suc zero)) l = let u = lt-ltb 2 (v .ends) l in record { voltage = field-at 11 .least u; current = field-at 12 .least u }
+  in-use m (suc (suc (suc zero))) l = let u = lt-ltb 3 (v .ends) l in record { voltage = field-at 15 .least u; current = field-at 16 .least u }
+  in-use m (suc (suc (suc (suc z)))) l = absurd (omega arith)
 
   pub limits-of : 2 ≤ v .ends → v .ends ≤ 4 → Limits v
   limits-of l m =
@@ -88,6 +100,7 @@ pub record Storable (v : Setting) : Type 0 where
   pub confirm : Ranged 1 24 (v .confirm)
   pub power : Ranged 1 50000 (v .power)
   pub bounded : (z : ℕ) → z < 4 → Bounded (endOf v z)
+  pub in-use : (z : ℕ) → z < v .ends → InUse (endOf v z)
   pub basic : Ranged 100 2500 (v .thresholds .basic)
   pub high : Ranged 2500 30000 (v .thresholds .high)
   pub slope1 : Ranged 10 150 (v .thresholds .slope1)
@@ -114,6 +127,7 @@ storable-is v h =
       confirm = ranged (field-at v f 1);
       power = power-ranged v f;
       bounded = bounded v f;
+      in-use = in-use v f (leb→le (v .ends) 4 (ends .1));
       basic = ranged (field-at v f 19);
       high = ranged (field-at v f 20);
       slope1 = ranged (field-at v f 21);

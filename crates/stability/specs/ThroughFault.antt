@@ -1,21 +1,66 @@
--- A healthy bank at a heavy through-fault, beside demand 3: its sets are accepted and healthy, so the demand speaks of them. A bank of groups 0 and 5
--- carries twenty times reference current on limb A, and zero sequence of five times at the end that filters it out.
+-- Healthy banks at heavy through-faults, beside demand 3: their sets are accepted and healthy, so the demand speaks of them. The first is one that 01 has;
+-- the others carry neutral current, by 02's card 8.
 use mathlib.Core.List.{List, [], _∷_, _++_}
+use Prim.Native.Nat.{ℕ}
 use lib.Dec.{T}
 use lib.IntN.{ℤ, pos, negℤ}
 use lib.ListN.{replicate}
+use Rattle.setting.specs.declared.Setting.{Setting}
 use Rattle.setting.specs.Values.{startable}
-use Rattle.setting.specs.Worked.{factory}
+use Rattle.setting.specs.Worked.{rated, unused, off, twoEnds, factory}
 use Rattle.matching.specs.Bank.{Healthy}
+use Rattle.matching.specs.Neutral.{WithoutNeutral}
 use Rattle.relay.specs.Calls.{accepted}
 
--- the samples A, B, C of the two ends, and zero at the others
+abbrev neg : ℕ → ℤ
+neg n = negℤ (pos n)
+
+-- A bank of groups 0 and 5 carries twenty times reference current on limb A, and zero sequence of five times at the end that filters it out: the samples
+-- A, B, C of the two ends, and zero at the others.
 unfoldable pub through : List ℤ
-through =
-    (pos 18996 ∷ negℤ (pos 1998) ∷ negℤ (pos 1998) ∷ [])
-    ++ (pos 16667 ∷ pos 0 ∷ negℤ (pos 16667) ∷ [])
-    ++ replicate 6 (pos 0)
+through = (pos 18996 ∷ neg 1998 ∷ neg 1998 ∷ []) ++ (pos 16667 ∷ pos 0 ∷ neg 16667 ∷ []) ++ replicate 6 (pos 0)
 
 -- A relay can be started on the setting; the set is accepted and is that of a healthy bank.
 unfoldable pub ThroughFault : Type 0
 ThroughFault = T (startable factory) × T (accepted factory through) × Healthy factory through
+
+-- ---- neutral current (02, card 8)
+
+-- An autotransformer of 100 MVA (source 001, 3.4.2): three ends at one voltage, 220 kV, the third its neutral with a current transformer on each phase;
+-- groups 0, all filters off, no blocking.
+unfoldable pub autotransformer : Setting
+autotransformer =
+    record {
+      ends = 3;
+      flags = 0;
+      confirm = 1;
+      power = 1000;
+      e0 = rated 2200 300;
+      e1 = rated 2200 600;
+      e2 = rated 2200 400;
+      e3 = unused;
+      thresholds = record { basic = 200; high = 8000; slope1 = 30; slope2 = 70; knee = 4000; second = 15; fifth = 30 };
+      overcurrent = off;
+    }
+
+-- Phase A is earthed beyond end 1: fifteen times reference current leaves there, eight come in at end 0 and seven at the neutral.
+unfoldable pub earthed : List ℤ
+earthed = (pos 6998 ∷ neg 875 ∷ neg 875 ∷ []) ++ (neg 6561 ∷ pos 219 ∷ pos 219 ∷ []) ++ (pos 4593 ∷ pos 328 ∷ pos 328 ∷ []) ++ replicate 3 (pos 0)
+
+-- The two ends of the factory setting, groups 0 and 5, with both filters off.
+unfoldable pub passing : Setting
+passing = twoEnds 400 (rated 1100 300) (record { voltage = 200; current = 1200; group = 5; filter = 0 })
+
+-- Twenty times reference current on limb A, fifteen of them back through the neutral.
+unfoldable pub passed : List ℤ
+passed = (pos 13996 ∷ neg 2799 ∷ neg 700 ∷ []) ++ (pos 8522 ∷ neg 6478 ∷ neg 16478 ∷ []) ++ replicate 6 (pos 0)
+
+-- A relay can be started on the setting; the set is accepted and is that of a healthy bank, and was not before card 8.
+pub record NewlyHealthy (v : Setting) (xs : List ℤ) : Type 0 where
+  pub starts : T (startable v)
+  pub taken : T (accepted v xs)
+  pub now : Healthy v xs
+  pub before : WithoutNeutral v xs → ⊥
+
+unfoldable pub EarthFaults : Type 0
+EarthFaults = NewlyHealthy autotransformer earthed × NewlyHealthy passing passed

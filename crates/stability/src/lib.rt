@@ -8,7 +8,7 @@ ghost use Rattle.stability.specs.Apart.{PageApart};
 ghost use Rattle.stability.specs.Slopes.{FallingDeclined};
 ghost use Rattle.stability.specs.Stability.{Stability};
 ghost use Rattle.stability.specs.Example.{FaultUnhealthy};
-ghost use Rattle.stability.specs.ThroughFault.{ThroughFault};
+ghost use Rattle.stability.specs.ThroughFault.{ThroughFault, EarthFaults};
 ghost use Rattle.stability.specs.Turning.{Turning};
 
 // Demand 2 over the list: the setting is kept, the window is that of the last twelve accepted sets, a set is answered as the definitions give for it,
@@ -48,10 +48,10 @@ pub fn stability()
     ensures { λ _. ⌜ Stability ⌝ }
 {}
 
-// Demand 3 is not empty: the set of a healthy bank at a through-fault of twenty times reference current, which it speaks of; and a list of sets that
+// Demand 3 is not empty: sets of healthy banks at heavy through-faults, without and with neutral current, which it speaks of; and a list of sets that
 // trips a relay, which are then not those of a healthy bank.
 pub fn examples()
-    ensures { λ _. ⌜ ThroughFault × FaultUnhealthy ⌝ }
+    ensures { λ _. ⌜ ThroughFault × EarthFaults × FaultUnhealthy ⌝ }
 {}
 
 // Turned current transformers, over the list: negating every sample negates matched numbers, c and s, and leaves answers, counters and latches.
