@@ -30,11 +30,11 @@ systems-at t h sysC = every-at 3 (λ y. t (system y)) h 2 (omega arith)
 -- the currents w of the limbs and the common numbers of the ends
 module _ (v : Setting) (w : ℕ → Three) (common : ℕ → ℤ) (xs : List ℤ) where
   -- the ideal current of a phase, and twice the error of its sample
-  abbrev ideally : ℕ → System → Quotient
-  ideally z l = let e = endOf v z in idealCurrent (e .group) (filtered e) (factorTop e) (factorUnder v) (seen l (w z)) (common z)
+  abbrev idealAt : ℕ → System → Quotient
+  idealAt z l = let e = endOf v z in idealCurrent (e .group) (filtered e) (factorTop e) (factorUnder v) (seen l (w z)) (common z)
 
   abbrev error : ℕ → System → ℤ
-  error z l = let i = ideally z l in pos 2 *ℤ (pos (1000 * i .under) *ℤ seen l (phases xs z) .p -ℤ i .top)
+  error z l = let i = idealAt z l in pos 2 *ℤ (pos (1000 * i .under) *ℤ seen l (phases xs z) .p -ℤ i .top)
 
   -- what is tested of a limb, of an end in use, of one of its samples, and of an end that is not in use
   abbrev over-ends : System → Bool
@@ -47,7 +47,7 @@ module _ (v : Setting) (w : ℕ → Three) (common : ℕ → ℤ) (xs : List ℤ
   unfiltered z = cond (filtered (endOf v z)) true (eqZ (common z) (pos 0))
 
   abbrev near : ℕ → System → Bool
-  near z l = leb (natAbs (error z l)) (1000 * ideally z l .under)
+  near z l = leb (natAbs (error z l)) (1000 * idealAt z l .under)
 
   abbrev other : ℕ → System → Bool
   other z l = eqZ (seen l (phases xs z) .p) (pos 0)

@@ -30,6 +30,7 @@ gained true f i s = i
 gained false true i s = i
 gained false false i s = plusThird i s
 
+-- the ideal current before it is divided by k
 unfoldable pub ideal : (isEven filter : Bool) → ℕ → Three → Quotient
 ideal e f g w = gained e f (lineCurrent e g w) (sum3 w)
 

@@ -1,5 +1,5 @@
--- Demand 3 (00; 01, "A healthy bank"; reads and writes by 02, card 2): one claim about the whole list of calls from a fresh relay. It keeps to the
--- differential element (02, card 6), and holds with X and the curve at any accepted value.
+-- Demand 3 (00; 01, "A healthy bank"; reads and writes by 02, card 2, neutral current by card 8): one claim about the whole list of calls from a fresh
+-- relay. It keeps to the differential element (02, card 6), and holds with X and the curve at any accepted value.
 use mathlib.Core.Path.{_≡_}
 use mathlib.Core.Logic.{_≢_}
 use mathlib.Core.Bool.{false}
