@@ -48,17 +48,6 @@ static void must(int right, const char *what)
 
 /* ---- Settings ---- */
 
-/* Lowest settings, at which a healthy bank would start soonest. */
-static void most_sensitive(struct setting *s)
-{
-    s->confirm = 1;
-    s->pick_up = 100;
-    s->high_set = 2500;
-    s->slope1 = s->slope2 = 10;
-    s->third_section = 1500;
-    s->flags = 0;
-}
-
 /* Factors up to the highest: just 16, or a little below. */
 static void draw_top(struct draw *d, struct setting *s)
 {

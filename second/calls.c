@@ -227,17 +227,6 @@ static uint8_t *next_block(struct record *r)
     return block;
 }
 
-/* Lowest settings, at which a healthy bank would start soonest. */
-static void most_sensitive(struct setting *s)
-{
-    s->confirm = 1;
-    s->pick_up = 100;
-    s->high_set = 2500;
-    s->slope1 = s->slope2 = 10;
-    s->third_section = 1500;
-    s->flags = 0;
-}
-
 /* Puts the filter off at two ends, or at all. */
 static void put_filters_off(struct draw *d, struct setting *s)
 {

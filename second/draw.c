@@ -400,6 +400,17 @@ int16_t unloaded_sample(size_t k)
 
 /* ---- A healthy bank ---- */
 
+/* Lowest settings, at which a healthy bank would start soonest. */
+void most_sensitive(struct setting *s)
+{
+    s->confirm = 1;
+    s->pick_up = 100;
+    s->high_set = 2500;
+    s->slope1 = s->slope2 = 10;
+    s->third_section = 1500;
+    s->flags = 0;
+}
+
 /* Thousandths of reference that 32,000 samples are at an end. */
 static int64_t end_reach(const struct setting *s, size_t z)
 {

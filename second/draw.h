@@ -68,6 +68,7 @@ struct bank {
     int neutral;
     int64_t neutral_cosine[MAX_ENDS][3], neutral_sine[MAX_ENDS][3];
 };
+void most_sensitive(struct setting *s);
 size_t unfiltered_ends(const struct setting *s);
 void draw_bank(struct draw *d, const struct setting *s, struct bank *bank);
 int draw_neutral(struct draw *d, const struct setting *s, struct bank *bank);

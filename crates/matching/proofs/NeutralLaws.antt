@@ -103,7 +103,7 @@ widened v xs = (to-wider v xs, from-wider v xs)
 
 -- ---- the sum over the phases of an end
 
--- each phase of the three sees each limb once
+-- each limb is seen once from each of the three places
 round-sum : (a b c x y z : ℤ) →
     (a *ℤ x +ℤ b *ℤ y +ℤ c *ℤ z) +ℤ (a *ℤ y +ℤ b *ℤ z +ℤ c *ℤ x) +ℤ (a *ℤ z +ℤ b *ℤ x +ℤ c *ℤ y) ≡ (a +ℤ b +ℤ c) *ℤ (x +ℤ y +ℤ z)
 round-sum a b c x y z = simp ring (simp linear (omega arith))
@@ -137,12 +137,15 @@ module _ (M B : ℕ) (a x : Three) (d : ℤ) (some : 0 < M) (h : sum3 a ≡ pos 
       let twice : (pos 2 *ℤ sum3 x) within 3 = cancel-times {k = M} some (within-≤ all (omega arith)) in
       twice ⇒ simp ints (omega arith)
 
+-- the samples of an end whose w sum to zero, and with no common number
 level : (e : Bool) (g N B : ℕ) (w x : Three) (c : ℤ) → 0 < N → sum3 w ≡ pos 0 → c ≡ pos 0 →
     Close N B c (x .p) (lineCurrent e g w) → Close N B c (x .n) (lineCurrent e g (fromNext w)) →
     Close N B c (x .q) (lineCurrent e g (fromNext (fromNext w))) → sum3 x within 1
 unfolding lineCurrent
-level true g N B w x c l h e = three-halves (1000 * (1 * N)) B (lines true g w) x (pos (1 * N) *ℤ c) (omega arith) (line-sum true g w h) (rw e (simp ints (omega arith)))
-level false g N B w x c l h e = three-halves (1000 * (2340 * N)) B (lines false g w) x (pos (2340 * N) *ℤ c) (omega arith) (line-sum false g w h) (rw e (simp ints (omega arith)))
+level true g N B w x c l h e =
+    three-halves (1000 * (1 * N)) B (lines true g w) x (pos (1 * N) *ℤ c) (omega arith) (line-sum true g w h) (rw e (simp ints (omega arith)))
+level false g N B w x c l h e =
+    three-halves (1000 * (2340 * N)) B (lines false g w) x (pos (2340 * N) *ℤ c) (omega arith) (line-sum false g w h) (rw e (simp ints (omega arith)))
 
 pub neutral-before : NeutralBefore
 unfolding NeutralBefore seen

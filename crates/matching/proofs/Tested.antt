@@ -1,13 +1,12 @@
--- A healthy bank by given numbers: the conditions of `Healthy`, each of them computed, for an example.
-use mathlib.Core.Path.{_≡_, refl}
-use mathlib.Core.Bool.{Bool, true, false, cond}
+-- A healthy bank by given numbers: each condition of `Healthy` is a test that computes, so that an example is shown by one `tt`.
+use mathlib.Core.Bool.{Bool, true, cond}
 use mathlib.Core.List.{List, [], _∷_}
-use Prim.Native.Nat.{ℕ, _*_, _≤_, _<_}
+use Prim.Native.Nat.{ℕ, _*_}
 use native.Mathlib.Omega.{arith}
 use lib.Dec.{T, leb, leb→le}
 use borrow.Author.Tests.{le-leb}
 use lib.IntN.{ℤ, pos, natAbs, _*ℤ_, _-ℤ_}
-use Rattle.integer.specs.Within.{_within_, eqZ}
+use Rattle.integer.specs.Within.{eqZ}
 use Rattle.integer.specs.Sum.{sum}
 use Rattle.integer.proofs.Laws.{eqZ→≡}
 use Rattle.lists.specs.Tests.{hold, every}
@@ -15,7 +14,7 @@ use Rattle.lists.proofs.TestLaws.{hold-at, every-at, when, unless}
 use Rattle.setting.specs.declared.Setting.{Setting}
 use Rattle.setting.specs.Values.{endOf, factorTop, factorUnder}
 use Rattle.matching.specs.Matching.{Three, Quotient, sum3}
-use Rattle.matching.specs.Sets.{System, sysA, sysB, sysC, index, system, seen, phases, filtered}
+use Rattle.matching.specs.Sets.{System, sysA, sysB, sysC, system, seen, phases, filtered}
 use Rattle.matching.specs.Bank.{idealCurrent, Healthy}
 
 -- a test at each of the three systems
