@@ -116,10 +116,17 @@ module _ {K : ℤ} {g : ℕ} {x : Three} (s : MatchedInput K g x) (f : Bool) whe
 
   -- a healthy end: N / B is its k, w the currents of its limbs, c its common number
   module _ (N B : ℕ) (w : Three) (c : ℤ) where
+    -- the ideal current by the form: the form over k, and the common number
+    top-is : (u : Three) → idealCurrent g f N B u c .top ≡ pos B *ℤ (currents g f · u) +ℤ pos (currentsUnder g f * N) *ℤ c
+    top-is u = rw (← (linear-ideal (even g) f g .is u), ideal-under (even g) f g own u) refl
+
+    under-is : (u : Three) → idealCurrent g f N B u c .under ≡ currentsUnder g f * N
+    under-is u = rw (ideal-under (even g) f g own u) refl
+
     -- a sample that is near its ideal, by the form
     near-form : (u : Three) (y : ℤ) → NearIdeal (idealCurrent g f N B u c) y →
         err (1000 * (currentsUnder g f * N)) B (pos (currentsUnder g f * N) *ℤ c) y (currents g f · u) within (1000 * (currentsUnder g f * N))
-    near-form u y h = (rw (linear-ideal (even g) f g .is u, ideal-under (even g) f g u own) at h) ⇒ simp ints (omega arith)
+    near-form u y h = rw (top-is u, under-is u) at h
 
     pub one-end : 0 < B → Near K (pos (65536 * N)) B → (f ≡ true → sum3 w ≡ pos 0) → (f ≡ false → c ≡ pos 0) →
         let Close : Three → ℤ → Type 0 = λ u y. NearIdeal (idealCurrent g f N B u c) y in
