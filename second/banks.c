@@ -21,13 +21,13 @@ static const int32_t LIMIT[MAX_ENDS + 1] = {0, 0, 45, 69, 91};
 
 /* What a run has, without and with neutral current: banks and their sets, how many of
  * them pushed, and the largest D by ends, drawn and pushed. Of the sets with neutral
- * current, those that are no healthy bank's by 01 with the w that made them, and with
- * any w. Refused sets (14, 10, 11) and resets between; by end the groups met; and by
- * ends, filter and group the ends of sets with neutral current, where the filter is
- * off with some at that end. The largest matched number; the factors met; and samples
- * that are one off and within 1/2 all the same. */
+ * current, those that are a healthy bank's by 01 with no w at all. Refused sets (14,
+ * 10, 11) and resets between; by end the groups met; and by ends, filter and group the
+ * ends of sets with neutral current, where the filter is off with some at that end.
+ * The largest matched number; the factors met; and samples that are one off and within
+ * 1/2 all the same. */
 static struct {
-    unsigned long banks[2], sets[2], pushed[2], not_01, no_w, between[4], halfway;
+    unsigned long banks[2], sets[2], pushed[2], no_w, between[4], halfway;
     unsigned long groups[MAX_ENDS][12], met[3][2][12];
     int32_t most[2][3][2], matched;
     uint64_t lowest, highest;
@@ -235,7 +235,6 @@ static void count_set(const struct setting *s, const struct currents *c,
     told.sets[neutral]++;
     if (!neutral)
         return;
-    told.not_01 += !healthy_by_01(s, c, list);
     told.no_w += (unsigned long)beyond_01(s, list);
     for (size_t z = 0; z < s->ends; z++)
         if (s->end[z].filter || limb_sum(c, z) != 0)
@@ -924,9 +923,8 @@ static int all_told(void)
            "%lu with; pushed %lu, %lu\n", SETTINGS, (unsigned long)told.lowest,
            (unsigned long)told.highest, told.banks[0], told.banks[1], told.pushed[0],
            told.pushed[1]);
-    printf("banks: sets %lu without neutral current, %lu with; of these %lu no healthy "
-           "bank's by 01 with their w, %lu with any\n", told.sets[0], told.sets[1],
-           told.not_01, told.no_w);
+    printf("banks: sets %lu without neutral current, %lu with, %lu of these a healthy "
+           "bank's by 01 with no w at all\n", told.sets[0], told.sets[1], told.no_w);
     printf("banks: between them refused 14, 10, 11: %lu, %lu, %lu, and %lu resets; "
            "ideals seen halfway %lu; largest matched number %d\n", b[0], b[1], b[2],
            b[3], told.halfway, told.matched);

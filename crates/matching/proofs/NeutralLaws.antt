@@ -17,23 +17,24 @@ use Rattle.setting.specs.Values.{endOf, factorTop, factorUnder, startable}
 use Rattle.setting.proofs.LimitLaws.{startable-is}
 use Rattle.matching.specs.Matching.{Three, three, Quotient, even, sum3}
 use Rattle.matching.specs.Sets.{sysA, sysB, sysC, fromNext, seen, phases, filtered}
-use Rattle.matching.specs.Bank.{lineCurrent, plusThird, gained, ideal, overK, plus, NearIdeal}
+use Rattle.matching.specs.Bank.{lineCurrent, plusThird, gained, ideal, overK, plusCommon, NearIdeal}
 use Rattle.matching.specs.Neutral.{WithoutNeutral, SumsZero, Widened, NeutralBefore}
 use Rattle.matching.proofs.Forms.{_·_, formOf, linear-line}
+use Rattle.matching.proofs.OneEnd.{err}
 use Rattle.matching.proofs.Total.{seen-sum}
 
 -- ---- a third of nothing
 
--- twice the error of a sample x, of which the ideal is t / u over k = N / B, and c
-abbrev err : (u N B : ℕ) (t c x : ℤ) → ℤ
-err u N B t c x = pos 2 *ℤ (pos (1000 * (u * N)) *ℤ x -ℤ (pos B *ℤ t +ℤ pos (u * N) *ℤ c))
+-- the error of a sample x, of which the ideal is t / u over k = N / B, and c
+abbrev errOf : (u N B : ℕ) (t c x : ℤ) → ℤ
+errOf u N B t c x = err (1000 * (u * N)) B (pos (u * N) *ℤ c) x t
 
-tripled : (u N B : ℕ) (t s c x : ℤ) → s ≡ pos 0 → err (3 * u) N B (pos 3 *ℤ t +ℤ pos u *ℤ s) c x ≡ pos 3 *ℤ err u N B t c x
+tripled : (u N B : ℕ) (t s c x : ℤ) → s ≡ pos 0 → errOf (3 * u) N B (pos 3 *ℤ t +ℤ pos u *ℤ s) c x ≡ pos 3 *ℤ errOf u N B t c x
 tripled u N B t s c x e = rw e (simp ints (omega arith))
 
 -- the sample x is near the current i over k, with c added
 abbrev Close : (N B : ℕ) (c x : ℤ) → Quotient → Type 0
-Close N B c x i = NearIdeal (plus (overK N B i) c) x
+Close N B c x i = NearIdeal (plusCommon (overK N B i) c) x
 
 module _ (i : Quotient) (N B : ℕ) (c x s : ℤ) (e : s ≡ pos 0) where
   third-added : Close N B c x i → Close N B c x (plusThird i s)
@@ -123,8 +124,7 @@ line-sum e g w h =
     (rounds (formOf (λ w. lineCurrent e g w .top)) w ∙ rw h (simp ints (omega arith)))
 
 halves : (M B : ℕ) (a b c x y z d : ℤ) → a +ℤ b +ℤ c ≡ pos 0 → d ≡ pos 0 →
-    pos M *ℤ (pos 2 *ℤ (x +ℤ y +ℤ z))
-    ≡ pos 2 *ℤ (pos M *ℤ x -ℤ (pos B *ℤ a +ℤ d)) +ℤ pos 2 *ℤ (pos M *ℤ y -ℤ (pos B *ℤ b +ℤ d)) +ℤ pos 2 *ℤ (pos M *ℤ z -ℤ (pos B *ℤ c +ℤ d))
+    pos M *ℤ (pos 2 *ℤ (x +ℤ y +ℤ z)) ≡ err M B d x a +ℤ err M B d y b +ℤ err M B d z c
 halves M B a b c x y z d h e =
     let gone : pos B *ℤ (a +ℤ b +ℤ c) ≡ pos 0 = rw h (simp ints (omega arith)) in
     e ⇒ gone ⇒ simp ints (omega arith)

@@ -11,7 +11,7 @@ use Rattle.integer.proofs.Reading.{ints, linear, _⇒_}
 use Rattle.integer.proofs.Laws.{ring, literals, within-≤, within-+, within-*, within-is, times-within, cancel-times}
 use Rattle.matching.specs.Matching.{Three, three, even, sum3, operated, matched}
 use Rattle.matching.specs.Sets.{fromNext}
-use Rattle.matching.specs.Bank.{idealCurrent, NearIdeal}
+use Rattle.matching.specs.Bank.{lineCurrent, gained, ideal, idealCurrent, NearIdeal}
 use Rattle.matching.specs.Weights.{own, next, parts}
 use Rattle.matching.specs.MatchingInput.{MatchedInput}
 use Rattle.matching.proofs.Forms.{_·_, Linear, linear-p, linear-n, linear-q, linear-form, linear-parts, linear-ideal, ideal-under}
@@ -57,8 +57,22 @@ sized K m v hK hm eV =
 
 -- ---- from the samples to m
 
+-- what is divided by k comes first, and then the common number
+top-is : (e f : Bool) (g N B : ℕ) (u : Three) (c : ℤ) →
+    idealCurrent e f g N B u c .top ≡ pos B *ℤ ideal e f g u .top +ℤ pos (ideal e f g u .under * N) *ℤ c
+unfolding lineCurrent gained ideal
+top-is true f g N B u c = simp ints (omega arith)
+top-is false true g N B u c = simp ints (omega arith)
+top-is false false g N B u c = simp ints (omega arith)
+
+under-is : (e f : Bool) (g N B : ℕ) (u : Three) (c : ℤ) → idealCurrent e f g N B u c .under ≡ ideal e f g u .under * N
+unfolding lineCurrent gained ideal
+under-is true f g N B u c = omega arith
+under-is false true g N B u c = omega arith
+under-is false false g N B u c = omega arith
+
 -- twice the error of a sample s, whose ideal is (B a + y) / M
-abbrev err : (M B : ℕ) (y s a : ℤ) → ℤ
+abbrev pub err : (M B : ℕ) (y s a : ℤ) → ℤ
 err M B y s a = pos 2 *ℤ (pos M *ℤ s -ℤ (pos B *ℤ a +ℤ y))
 
 abbrev errs : (M B : ℕ) (y : ℤ) (x a : Three) → Three
@@ -116,20 +130,14 @@ module _ {K : ℤ} {g : ℕ} {x : Three} (s : MatchedInput K g x) (f : Bool) whe
 
   -- a healthy end: N / B is its k, w the currents of its limbs, c its common number
   module _ (N B : ℕ) (w : Three) (c : ℤ) where
-    -- the ideal current by the form: the form over k, and the common number
-    top-is : (u : Three) → idealCurrent g f N B u c .top ≡ pos B *ℤ (currents g f · u) +ℤ pos (currentsUnder g f * N) *ℤ c
-    top-is u = rw (← (linear-ideal (even g) f g .is u), ideal-under (even g) f g own u) refl
-
-    under-is : (u : Three) → idealCurrent g f N B u c .under ≡ currentsUnder g f * N
-    under-is u = rw (ideal-under (even g) f g own u) refl
-
     -- a sample that is near its ideal, by the form
-    near-form : (u : Three) (y : ℤ) → NearIdeal (idealCurrent g f N B u c) y →
+    near-form : (u : Three) (y : ℤ) → NearIdeal (idealCurrent (even g) f g N B u c) y →
         err (1000 * (currentsUnder g f * N)) B (pos (currentsUnder g f * N) *ℤ c) y (currents g f · u) within (1000 * (currentsUnder g f * N))
-    near-form u y h = rw (top-is u, under-is u) at h
+    near-form u y h =
+        (rw (top-is (even g) f g N B u c, under-is (even g) f g N B u c, linear-ideal (even g) f g .is u, ideal-under (even g) f g u own) at h)
 
     pub one-end : 0 < B → Near K (pos (65536 * N)) B → (f ≡ true → sum3 w ≡ pos 0) → (f ≡ false → c ≡ pos 0) →
-        let Close : Three → ℤ → Type 0 = λ u y. NearIdeal (idealCurrent g f N B u c) y in
+        let Close : Three → ℤ → Type 0 = λ u y. NearIdeal (idealCurrent (even g) f g N B u c) y in
         Close w (x .p) → Close (fromNext w) (x .n) → Close (fromNext (fromNext w)) (x .q) →
         (pos 1000 *ℤ matched K g f x -ℤ w .p) within 13000
     one-end hB eK hw hc p n q =

@@ -13,7 +13,7 @@ use Rattle.lists.specs.Tests.{hold, every}
 use Rattle.lists.proofs.TestLaws.{hold-at, every-at, when, unless}
 use Rattle.setting.specs.declared.Setting.{Setting}
 use Rattle.setting.specs.Values.{endOf, factorTop, factorUnder}
-use Rattle.matching.specs.Matching.{Three, Quotient, sum3}
+use Rattle.matching.specs.Matching.{Three, Quotient, even, sum3}
 use Rattle.matching.specs.Sets.{System, sysA, sysB, sysC, system, seen, phases, filtered}
 use Rattle.matching.specs.Bank.{idealCurrent, Healthy}
 
@@ -30,7 +30,7 @@ systems-at t h sysC = every-at 3 (λ y. t (system y)) h 2 (omega arith)
 module _ (v : Setting) (w : ℕ → Three) (common : ℕ → ℤ) (xs : List ℤ) where
   -- the ideal current of a phase, and twice the error of its sample
   abbrev idealAt : ℕ → System → Quotient
-  idealAt z l = let e = endOf v z in idealCurrent (e .group) (filtered e) (factorTop e) (factorUnder v) (seen l (w z)) (common z)
+  idealAt z l = let e = endOf v z in idealCurrent (even (e .group)) (filtered e) (e .group) (factorTop e) (factorUnder v) (seen l (w z)) (common z)
 
   abbrev error : ℕ → System → ℤ
   error z l = let i = idealAt z l in pos 2 *ℤ (pos (1000 * i .under) *ℤ seen l (phases xs z) .p -ℤ i .top)

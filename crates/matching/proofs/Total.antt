@@ -14,7 +14,7 @@ use Rattle.integer.proofs.HalfUnit.{nearest-near}
 use Rattle.setting.specs.declared.Setting.{Setting}
 use Rattle.setting.specs.Values.{endOf, factorTop, factorUnder, factor, startable}
 use Rattle.setting.proofs.LimitLaws.{startable-is}
-use Rattle.matching.specs.Matching.{Three, sum3}
+use Rattle.matching.specs.Matching.{Three, Quotient, even, sum3}
 use Rattle.matching.specs.Sets.{System, sysA, sysB, sysC, fromNext, seen, phases, filtered, matchedAt}
 use Rattle.matching.specs.Bank.{idealCurrent, NearIdeal, Healthy, InReach, total, TotalBound, MatchedBound}
 use Rattle.matching.specs.MatchingInput.{MatchedInput}
@@ -57,7 +57,8 @@ module _ (v : Setting) (start : T (startable v)) (xs : List ℤ) (reach : InReac
       let e = endOf v z in
       let f = filtered e in
       let some : 0 < factorUnder v = omega (arith, startable-is v start .power .least) in
-      let near = around (λ x u. NearIdeal (idealCurrent (e .group) f (factorTop e) (factorUnder v) u (bank .common z)) (x .p)) (phases xs z) (bank .w z) (bank .near z h) l in
+      let current : Three → Quotient = λ u. idealCurrent (even (e .group)) f (e .group) (factorTop e) (factorUnder v) u (bank .common z) in
+      let near = around (λ x u. NearIdeal (current u) (x .p)) (phases xs z) (bank .w z) (bank .near z h) l in
       one-end (scaled z h l) f (factorTop e) (factorUnder v) (seen l (bank .w z)) (bank .common z) some
       (nearest-near (pos (65536 * factorTop e)) (factorUnder v) some)
       (λ t. seen-sum (bank .w z) l ⇒ bank .over-limbs z h t ⇒ simp ints (omega arith))

@@ -39,11 +39,11 @@ abbrev pub overK : (N B : ℕ) → Quotient → Quotient
 overK N B i = record { top = pos B *ℤ i .top; under = i .under * N }
 
 -- the common number c, added
-abbrev pub plus : Quotient → ℤ → Quotient
-plus i c = record { top = i .top +ℤ pos (i .under) *ℤ c; under = i .under }
+abbrev pub plusCommon : Quotient → ℤ → Quotient
+plusCommon i c = record { top = i .top +ℤ pos (i .under) *ℤ c; under = i .under }
 
-abbrev pub idealCurrent : (g : ℕ) (filter : Bool) (N B : ℕ) (w : Three) (c : ℤ) → Quotient
-idealCurrent g f N B w c = plus (overK N B (ideal (even g) f g w)) c
+abbrev pub idealCurrent : (isEven filter : Bool) (g N B : ℕ) (w : Three) (c : ℤ) → Quotient
+idealCurrent e f g N B w c = plusCommon (overK N B (ideal e f g w)) c
 
 -- a sample of x units lies within 1/2 of i thousandths
 abbrev pub NearIdeal : Quotient → ℤ → Type 0
@@ -63,7 +63,8 @@ pub record Healthy (v : Setting) (xs : List ℤ) : Type 0 where
   -- each sample of an end in use lies within 1/2 of its ideal
   pub near : (z : ℕ) → z < v .ends → (l : System) →
       let e = endOf v z in
-      NearIdeal (idealCurrent (e .group) (filtered e) (factorTop e) (factorUnder v) (seen l (w z)) (common z)) (seen l (phases xs z) .p)
+      let i = idealCurrent (even (e .group)) (filtered e) (e .group) (factorTop e) (factorUnder v) (seen l (w z)) (common z) in
+      NearIdeal i (seen l (phases xs z) .p)
   -- others are zero
   pub others : (z : ℕ) → v .ends ≤ z → z < 4 → (l : System) → seen l (phases xs z) .p ≡ pos 0
 

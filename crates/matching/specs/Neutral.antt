@@ -1,7 +1,7 @@
 -- Neutral current (document 02, card 8; source 001, 3.4.2). The bank as document 01 has it carries none: w sums to zero over the limbs at every end. It
 -- is that case of the wider bank.
 use mathlib.Core.Path.{_≡_}
-use mathlib.Core.Bool.{Bool, false}
+use mathlib.Core.Bool.{false}
 use mathlib.Core.List.{List}
 use Prim.Native.Nat.{ℕ, _≤_, _<_}
 use lib.Dec.{T}
@@ -12,7 +12,7 @@ use Rattle.setting.specs.declared.Setting.{Setting}
 use Rattle.setting.specs.Values.{endOf, factorTop, factorUnder, startable}
 use Rattle.matching.specs.Matching.{Three, even, sum3}
 use Rattle.matching.specs.Sets.{System, seen, phases, filtered}
-use Rattle.matching.specs.Bank.{lineCurrent, overK, plus, NearIdeal, Healthy}
+use Rattle.matching.specs.Bank.{lineCurrent, overK, plusCommon, NearIdeal, Healthy}
 
 -- The set xs holds, within half a unit per sample, the currents of a healthy bank of the setting v as document 01 has it.
 pub record WithoutNeutral (v : Setting) (xs : List ℤ) : Type 0 where
@@ -29,7 +29,7 @@ pub record WithoutNeutral (v : Setting) (xs : List ℤ) : Type 0 where
   pub near : (z : ℕ) → z < v .ends → (l : System) →
       let e = endOf v z in
       let line = lineCurrent (even (e .group)) (e .group) (seen l (w z)) in
-      NearIdeal (plus (overK (factorTop e) (factorUnder v) line) (common z)) (seen l (phases xs z) .p)
+      NearIdeal (plusCommon (overK (factorTop e) (factorUnder v) line) (common z)) (seen l (phases xs z) .p)
   -- others are zero
   pub others : (z : ℕ) → v .ends ≤ z → z < 4 → (l : System) → seen l (phases xs z) .p ≡ pos 0
 

@@ -6,7 +6,7 @@ use mathlib.Core.List.{List, [], _∷_, map}
 use Prim.Native.Nat.{ℕ}
 use lib.IntN.{ℤ, pos, negℤ, _*ℤ_}
 use Rattle.integer.specs.Nearest.{floor, nearest, nearestAway}
-use Rattle.matching.specs.Matching.{Three, three, Quotient, operation, operated, matched}
+use Rattle.matching.specs.Matching.{Three, three, Quotient, operation, even, operated, matched}
 use Rattle.matching.specs.Sets.{System, sysA, sysB, sysC, seen}
 use Rattle.matching.specs.Bank.{lineCurrent, gained, ideal, idealCurrent}
 
@@ -78,7 +78,7 @@ limbs = three (pos 14040) (pos 4680) (neg 9360)
 -- what the definition gives for the phases A, B, C of an end of k 2, and the numbers to meet, over the same
 abbrev lines : (filter : Bool) (common g : ℕ) (a b c : ℤ) → Worked
 lines f common g a b c =
-    let i : System → Quotient = λ l. idealCurrent g f 2 1 (seen l limbs) (pos common) in
+    let i : System → Quotient = λ l. idealCurrent (even g) f g 2 1 (seen l limbs) (pos common) in
     let over : System → ℤ = λ l. pos (i l .under) in
     ((three (i sysA .top) (i sysB .top) (i sysC .top)), (three (over sysA *ℤ a) (over sysB *ℤ b) (over sysC *ℤ c)))
 

@@ -23,10 +23,7 @@ use Rattle.matching.specs.Neutral.{NeutralBefore}
 use Rattle.matching.proofs.NeutralLaws.{neutral-before}
 use Rattle.matching.proofs.Tested.{facts, tested}
 use Rattle.relay.specs.Calls.{setRows, accepted}
-use Rattle.stability.specs.ThroughFault.{through, ThroughFault, autotransformer, earthed, passing, passed, NewlyHealthy, EarthFaults}
-
-abbrev neg : ℕ → ℤ
-neg n = negℤ (pos n)
+use Rattle.stability.specs.ThroughFault.{neg, through, ThroughFault, autotransformer, earthed, oddBank, earthedOdd, NewlyHealthy, EarthFaults}
 
 -- the currents of a bank of two ends: what flows in at end 0, in thousandths on the limbs A, B, C, leaves at end 1
 abbrev flow : (a b c : ℤ) → ℕ → Three
@@ -67,9 +64,9 @@ newly v w xs s a h f m =
     }
 
 pub earth-faults : EarthFaults
-unfolding EarthFaults autotransformer earthed passing passed factor factorHigh factorsLow startRows nearest floor upTo setRows eqZ facts sum seen lineCurrent
+unfolding EarthFaults autotransformer earthed oddBank earthedOdd factor factorHigh factorsLow startRows nearest floor upTo setRows eqZ facts sum seen lineCurrent
     gained ideal operation
 earth-faults = (
   newly autotransformer spread earthed tt tt tt refl tt,
-  newly passing (flow (pos 20000000) (neg 4000000) (neg 1000000)) passed tt tt tt refl tt,
+  newly oddBank (flow (pos 20000000) (neg 4000000) (neg 1000000)) earthedOdd tt tt tt refl tt,
 )

@@ -12,7 +12,7 @@ use Rattle.matching.specs.Bank.{Healthy}
 use Rattle.matching.specs.Neutral.{WithoutNeutral}
 use Rattle.relay.specs.Calls.{accepted}
 
-abbrev neg : ℕ → ℤ
+abbrev pub neg : ℕ → ℤ
 neg n = negℤ (pos n)
 
 -- A bank of groups 0 and 5 carries twenty times reference current on limb A, and zero sequence of five times at the end that filters it out: the samples
@@ -48,12 +48,12 @@ unfoldable pub earthed : List ℤ
 earthed = (pos 6998 ∷ neg 875 ∷ neg 875 ∷ []) ++ (neg 6561 ∷ pos 219 ∷ pos 219 ∷ []) ++ (pos 4593 ∷ pos 328 ∷ pos 328 ∷ []) ++ replicate 3 (pos 0)
 
 -- The two ends of the factory setting, groups 0 and 5, with both filters off.
-unfoldable pub passing : Setting
-passing = twoEnds 400 (rated 1100 300) (record { voltage = 200; current = 1200; group = 5; filter = 0 })
+unfoldable pub oddBank : Setting
+oddBank = twoEnds 400 (rated 1100 300) (record { voltage = 200; current = 1200; group = 5; filter = 0 })
 
 -- Twenty times reference current on limb A, fifteen of them back through the neutral.
-unfoldable pub passed : List ℤ
-passed = (pos 13996 ∷ neg 2799 ∷ neg 700 ∷ []) ++ (pos 8522 ∷ neg 6478 ∷ neg 16478 ∷ []) ++ replicate 6 (pos 0)
+unfoldable pub earthedOdd : List ℤ
+earthedOdd = (pos 13996 ∷ neg 2799 ∷ neg 700 ∷ []) ++ (pos 8522 ∷ neg 6478 ∷ neg 16478 ∷ []) ++ replicate 6 (pos 0)
 
 -- A relay can be started on the setting; the set is accepted and is that of a healthy bank, and was not before card 8.
 pub record NewlyHealthy (v : Setting) (xs : List ℤ) : Type 0 where
@@ -63,4 +63,4 @@ pub record NewlyHealthy (v : Setting) (xs : List ℤ) : Type 0 where
   pub before : WithoutNeutral v xs → ⊥
 
 unfoldable pub EarthFaults : Type 0
-EarthFaults = NewlyHealthy autotransformer earthed × NewlyHealthy passing passed
+EarthFaults = NewlyHealthy autotransformer earthed × NewlyHealthy oddBank earthedOdd
