@@ -135,6 +135,7 @@ module _ {K : ℤ} {g : ℕ} {x : Three} (s : MatchedInput K g x) (f : Bool) whe
         err (1000 * (currentsUnder g f * N)) B (pos (currentsUnder g f * N) *ℤ c) y (currents g f · u) within (1000 * (currentsUnder g f * N))
     near-form u y h =
         (rw (top-is (even g) f g N B u c, under-is (even g) f g N B u c, linear-ideal (even g) f g .is u, ideal-under (even g) f g u own) at h)
+        ⇒ simp ints (omega arith)
 
     pub one-end : 0 < B → Near K (pos (65536 * N)) B → (f ≡ true → sum3 w ≡ pos 0) → (f ≡ false → c ≡ pos 0) →
         let Close : Three → ℤ → Type 0 = λ u y. NearIdeal (idealCurrent (even g) f g N B u c) y in
