@@ -1,12 +1,12 @@
 -- Past 2Q the third section adds m2 where the second section's line adds m1, from the same height at 2Q: where m2 is not less than m1, it lies no lower.
 -- Where m2 is less, it lies 200 lower at R = 2Q + 200, or more, and there is a multiple of 200 between the two.
-use mathlib.Core.Path.{_≡_, refl}
-use mathlib.Core.Bool.{true, and-false}
+use mathlib.Core.Path.{_≡_, refl, sym, _∙_}
+use mathlib.Core.Bool.{true}
 use Prim.Native.Nat.{ℕ, _+_, _*_, _-_, _/_, _≤_, _<_}
 use native.Mathlib.Nat.{le-refl, mul-le-mul}
 use native.Mathlib.Omega.{arith}
 use lib.Dec.{T, ltb→lt}
-use borrow.Author.Tests.{lt-leb, lt-ltb, ltb-true}
+use borrow.Author.Tests.{lt-ltb, ltb-true}
 use Rattle.setting.specs.declared.Setting.{Setting}
 use Rattle.setting.specs.declared.Thresholds.{Thresholds}
 use Rattle.setting.specs.Values.{storable, falling}
@@ -16,6 +16,7 @@ use Rattle.setting.proofs.SlopeLaws.{slopes-rise}
 use Rattle.setting.proofs.LimitLaws.{storable-is, startable-is}
 use Rattle.characteristic.specs.Characteristic.{starts}
 use Rattle.characteristic.specs.Slopes.{secondLine, NotMoreEager, FallingEager, FallenEager}
+use Rattle.characteristic.proofs.Sections.{thirdLine, in-third}
 
 -- ---- a line of slope m1 from P, and one that goes on with m2 at Q2
 
@@ -27,27 +28,14 @@ module _ (P Q2 m1 m2 R : ℕ) (early : P ≤ Q2) (late : Q2 < R) (rise : m1 ≤ 
   no-higher : 200 * P + m1 * (R - P) ≤ 200 * P + m1 * (Q2 - P) + m2 * (R - Q2)
   no-higher = rw way (omega (arith, mul-le-mul rise (le-refl (R - Q2))))
 
--- ---- with R above 2Q no section but the third applies
-
--- the third section's line past 2Q
-abbrev thirdLine : Thresholds → ℕ → ℕ
-thirdLine t R = 200 * t .basic + t .slope1 * (2 * t .knee - t .basic) + t .slope2 * (R - 2 * t .knee)
-
-module _ (v : Setting) (D R : ℕ) (early : v .thresholds .basic ≤ 2 * v .thresholds .knee) (late : 2 * v .thresholds .knee < R) where
-  past-third : starts v D R ≡ true → thirdLine (v .thresholds) R < 200 * D
-  unfolding starts
-  past-third e =
-      let past : v .thresholds .basic < R = omega arith in
-      ltb-true (thirdLine (v .thresholds) R) (200 * D)
-      (rw (lt-leb R (v .thresholds .basic) past, lt-leb R (2 * v .thresholds .knee) late, lt-ltb (2 * v .thresholds .knee) R late, and-false) at e)
-
 pub not-more-eager : NotMoreEager
 unfolding NotMoreEager
 not-more-eager v s D R late e =
     let t = v .thresholds in
     let k = startable-is v s in
     let early : t .basic ≤ 2 * t .knee = omega (arith, k .basic .most, k .knee .least) in
-    omega (arith, no-higher (t .basic) (2 * t .knee) (t .slope1) (t .slope2) R early late (slopes-rise v s), past-third v D R early late e)
+    let past = ltb-true (thirdLine t R) (200 * D) (sym (in-third v D R early late) ∙ e) in
+    omega (arith, no-higher (t .basic) (2 * t .knee) (t .slope1) (t .slope2) R early late (slopes-rise v s), past)
 
 -- ---- 200 past 2Q, where slopes fall
 
@@ -69,17 +57,7 @@ module _ (v : Setting) (ok : T (storable v)) (fall : T (falling (v .thresholds))
   line-past = omega arith
 
   starts-past : starts v just-past there ≡ true
-  unfolding starts
-  starts-past =
-      let past : t .basic < there = omega (arith, early) in
-      let late : 2 * t .knee < there = omega arith in
-      rw (
-        lt-leb there (t .basic) past,
-        lt-leb there (2 * t .knee) late,
-        lt-ltb (2 * t .knee) there late,
-        and-false,
-        lt-ltb (thirdLine t there) (200 * just-past) line-past,
-      )
+  starts-past = in-third v just-past there early (omega arith) ∙ lt-ltb (thirdLine t there) (200 * just-past) line-past
 
   below-second : 200 * just-past ≤ secondLine t there
   below-second =
