@@ -28,7 +28,7 @@ build/numbers: second/numbers.c second/root.c second/root.h
 	@mkdir -p build
 	$(CC) $(CFLAGS) -o $@ $< second/root.c
 
-build/selftest build/banks build/vectors build/bench: build/%: second/%.c $(SECOND)
+build/selftest build/banks build/faults build/vectors build/bench: build/%: second/%.c $(SECOND)
 	@mkdir -p build
 	$(CC) $(CFLAGS) -o $@ $< second/relay.c second/draw.c -lm
 
@@ -54,10 +54,12 @@ $(CALLS): $(SOURCES)
 	rt check calls
 
 # The second program meets the numbers of documents 01 and 02, and lists of calls give the same answers turned, and struck of their page calls. Healthy
-# banks without and with neutral current keep the limits of D and start nothing, the largest D is told, and banks by wrong rules go past the limits.
-second: build/selftest build/banks
+# banks without and with neutral current keep the limits of D and start nothing, the largest D is told, and banks by wrong rules go past the limits. Faults
+# fed from one end start exactly where D is above P and trip after M sets, and wrong rules are told from that.
+second: build/selftest build/banks build/faults
 	build/selftest
 	build/banks
+	build/faults
 
 # What the programs of crates/ are run on, and what they must print, is what the second program makes.
 stored: build/numbers build/vectors build/bench

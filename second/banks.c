@@ -344,21 +344,6 @@ static void drawn_banks(struct draw *d)
 
 /* ---- Pushed banks ---- */
 
-/* Own phase, next and before in T(g), by g; of odd g times 780/1351. */
-static const int8_t TURN[12][3] = {
-    {1, 0, 0},  {1, -1, 0}, {0, -1, 0}, {0, -1, 1}, {0, 0, 1},  {-1, 0, 1},
-    {-1, 0, 0}, {-1, 1, 0}, {0, 1, 0},  {0, 1, -1}, {0, 0, -1}, {1, 0, -1}};
-
-/* What own phase (0), next or before weighs when an end is matched, in 4053ths. */
-static int64_t weight(const struct end *e, size_t j)
-{
-    const int8_t *t = TURN[e->group];
-
-    if (e->group % 2 == 1)
-        return 2340 * t[j] + (e->filter ? 0 : 1351);
-    return 4053 * t[j] - (e->filter ? 1351 * (t[0] + t[1] + t[2]) : 0);
-}
-
 /* Currents of an end whose ideals lie so many thousandths from these samples, each on
  * the side that takes the sum of system y up, or down where they are negative. With
  * the filter on their common part is the common number. */
@@ -370,7 +355,7 @@ static void aim_end(const struct setting *s, size_t z, size_t y, int64_t push,
 
     for (size_t j = 0; j < 3; j++) {
         size_t phase = (y + j) % 3;
-        int64_t t = weight(e, j);
+        int64_t t = phase_weight(e, j);
 
         ideal[phase] = 1000 * sample[phase] - (t > 0 ? push : t < 0 ? -push : 0);
     }
@@ -378,7 +363,7 @@ static void aim_end(const struct setting *s, size_t z, size_t y, int64_t push,
         __int128 sum = 0;
 
         for (size_t j = 0; j < 3; j++)
-            sum += weight(e, j) * ideal[(limb + j) % 3];
+            sum += phase_weight(e, j) * ideal[(limb + j) % 3];
         c->w[z][limb] = (int64_t)(sum * e->voltage * e->current /
                                   ((int64_t)3 * 780000 * s->power));
     }
@@ -834,8 +819,8 @@ static void hand_reach(struct draw *d)
 
         for (size_t limb = 0; limb < 3; limb++) {
             for (size_t j = 0; j < 3; j++)
-                c.w[1][limb] += 512000000 * weight(&s.end[1], j) / 4053 *
-                                (weight(&s.end[1], (limb + j) % 3) > 0 ? 1 : -1);
+                c.w[1][limb] += 512000000 * phase_weight(&s.end[1], j) / 4053 *
+                                (phase_weight(&s.end[1], (limb + j) % 3) > 0 ? 1 : -1);
             c.w[0][limb] = -c.w[1][limb] / 2;
             c.w[2][limb] = -c.w[1][limb] - c.w[0][limb];
         }

@@ -254,6 +254,23 @@ void draw_falling(struct draw *d, struct setting *s)
         s->slope2 = draw_limit(d, 10, s->slope2);
 }
 
+/* ---- Matching ---- */
+
+/* Own phase, next and before in T(g), by g; of odd g times 780/1351. */
+static const int8_t TURN[12][3] = {
+    {1, 0, 0},  {1, -1, 0}, {0, -1, 0}, {0, -1, 1}, {0, 0, 1},  {-1, 0, 1},
+    {-1, 0, 0}, {-1, 1, 0}, {0, 1, 0},  {0, 1, -1}, {0, 0, -1}, {1, 0, -1}};
+
+/* What own phase (0), next or before weighs when an end is matched, in 4053ths. */
+int64_t phase_weight(const struct end *e, size_t j)
+{
+    const int8_t *t = TURN[e->group];
+
+    if (e->group % 2 == 1)
+        return 2340 * t[j] + (e->filter ? 0 : 1351);
+    return 4053 * t[j] - (e->filter ? 1351 * (t[0] + t[1] + t[2]) : 0);
+}
+
 /* ---- Waves ---- */
 
 /* One cycle of a cosine in twelve steps, in 1/1560. */

@@ -38,6 +38,9 @@ void draw_eighths(struct draw *d, struct setting *s);
 void draw_overcurrent(struct draw *d, uint8_t curve, struct setting *s);
 void draw_falling(struct draw *d, struct setting *s);
 
+/* What own phase (0), next or before weighs when an end is matched, in 4053ths. */
+int64_t phase_weight(const struct end *e, size_t j);
+
 /* A current in every phase of every end: fundamental, second and fifth. */
 struct wave {
     int32_t cosine[3][SET_NUMBERS], sine[3][SET_NUMBERS];
