@@ -1,4 +1,5 @@
--- The laws of the three sections, of a quiet system, and of slopes that do not fall.
+-- The laws of the three sections, of a quiet system, of slopes that do not fall, and of a system with R = D.
 mod Sections
 pub mod Bound
 pub mod SlopeLaws
+pub mod OneEndLaws

@@ -34,7 +34,7 @@ not-more-eager v s D R late e =
     let t = v .thresholds in
     let k = startable-is v s in
     let early : t .basic ≤ 2 * t .knee = omega (arith, k .basic .most, k .knee .least) in
-    let past = ltb-true (thirdLine t R) (200 * D) (sym (in-third v D R early late) ∙ e) in
+    let past = ltb-true (thirdLine t R) (200 * D) (sym (in-third v D R (omega arith) late) ∙ e) in
     omega (arith, no-higher (t .basic) (2 * t .knee) (t .slope1) (t .slope2) R early late (slopes-rise v s), past)
 
 -- ---- 200 past 2Q, where slopes fall
@@ -57,7 +57,7 @@ module _ (v : Setting) (ok : T (storable v)) (fall : T (falling (v .thresholds))
   line-past = omega arith
 
   starts-past : starts v just-past there ≡ true
-  starts-past = in-third v just-past there early (omega arith) ∙ lt-ltb (thirdLine t there) (200 * just-past) line-past
+  starts-past = in-third v just-past there (omega (arith, early)) (omega arith) ∙ lt-ltb (thirdLine t there) (200 * just-past) line-past
 
   below-second : 200 * just-past ≤ secondLine t there
   below-second =

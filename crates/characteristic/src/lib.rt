@@ -8,6 +8,7 @@ ghost use Rattle.characteristic.specs.Characteristic.{starts as startsOf
 ghost use Rattle.characteristic.specs.Products.{Wide, Product};
 ghost use Rattle.characteristic.specs.Bound.{QuietBound};
 ghost use Rattle.characteristic.specs.Slopes.{NotMoreEager, FallingEager, FallenEager};
+ghost use Rattle.characteristic.specs.OneEnd.{StartsAboveP, BlindBySlope1, BlindBySlope2};
 use setting::Setting;
 
 // The currents of a system, in thousandths of reference current: D, R (twice the restraint), the second and the fifth harmonic.
@@ -130,4 +131,10 @@ pub fn quiet_bound()
 // their proofs.
 pub fn slopes()
     ensures { λ _. ⌜ NotMoreEager × FallingEager × FallenEager ⌝ }
+{}
+
+// With R = D, as at a fault fed from one end, a system starts exactly when D > P; with slopes of 200 percent it would not: no code, the statements and their
+// proofs.
+pub fn one_end()
+    ensures { λ _. ⌜ StartsAboveP × BlindBySlope1 × BlindBySlope2 ⌝ }
 {}

@@ -1,9 +1,11 @@
--- Laws of sums: of sums, differences, negated terms and multiples, of equal terms, and bounds on the size.
+-- Laws of sums: of sums, differences, negated terms and multiples, of equal terms, of one term that is left, and bounds on the size.
 use mathlib.Core.Path.{_≡_, refl}
+use mathlib.Core.Logic.{_≢_}
 use Prim.Native.Nat.{ℕ, zero, suc, _+_, _*_, _<_}
+use native.Mathlib.Decide.{ℕ-discrete}
 use native.Mathlib.Numerals.{add-one}
 use native.Mathlib.Omega.{arith}
-use lib.IntN.{ℤ, negℤ, natAbs, _+ℤ_, _*ℤ_, _-ℤ_}
+use lib.IntN.{ℤ, pos, negℤ, natAbs, _+ℤ_, _*ℤ_, _-ℤ_}
 use Rattle.integer.specs.Within.{_within_}
 use Rattle.integer.specs.Sum.{sum}
 use Rattle.integer.proofs.Reading.{ints}
@@ -37,6 +39,21 @@ pub sum-times : (a : ℤ) (f : ℕ → ℤ) (n : ℕ) → sum n (λ k. a *ℤ f 
 unfolding sum
 sum-times a f zero = simp ints (omega arith)
 sum-times a f (suc n) = rw (sum-times a f n) (simp ints (omega arith))
+
+-- terms that are all zero, or all but one
+sum-zero : (f : ℕ → ℤ) (n : ℕ) → ((k : ℕ) → k < n → f k ≡ pos 0) → sum n f ≡ pos 0
+unfolding sum
+sum-zero f zero h = refl
+sum-zero f (suc n) h = rw (sum-zero f n (λ k l. h k (omega arith)), h n (omega arith))
+
+pub sum-only : (f : ℕ → ℤ) (z n : ℕ) → z < n → ((k : ℕ) → k < n → k ≢ z → f k ≡ pos 0) → sum n f ≡ f z
+unfolding sum
+sum-only f z zero l h = absurd (omega arith)
+sum-only f z (suc n) l h = by (ℕ-discrete n z) (λ d. sum-only f z n (omega arith) (λ k m. h k (omega arith)))
+  where
+    by : Dec (n ≡ z) → (n ≢ z → sum n f ≡ f z) → sum (suc n) f ≡ f z
+    by (yes e) below = rw (sum-zero f n (λ k m. h k (omega arith) (omega arith)), e) (simp ints (omega arith))
+    by (no d) below = rw (h n (omega arith) d, below d) (simp ints (omega arith))
 
 pub sum-within : (b n : ℕ) (f : ℕ → ℤ) → ((k : ℕ) → k < n → f k within b) → sum n f within (n * b)
 unfolding sum

@@ -1,4 +1,5 @@
--- Samples negated (02, card 1): what the matching multiplies is a linear form of them, so it is negated, and with it the matched number.
+-- Samples negated (02, card 1): what the matching multiplies is a linear form of them, so it is negated, and with it the matched number. So that of samples
+-- that are zero is zero.
 use mathlib.Core.Path.{_≡_, refl, ap, sym, _∙_}
 use mathlib.Core.Bool.{Bool, true, false, cond}
 use mathlib.Core.List.{List, map}
@@ -27,6 +28,9 @@ use Rattle.matching.proofs.Parts.{matched-in-parts}
 abbrev opposite : Three → Three
 opposite x = three (negℤ (x .p)) (negℤ (x .n)) (negℤ (x .q))
 
+abbrev zeros : Three
+zeros = three (pos 0) (pos 0) (pos 0)
+
 form-opposite : (f x : Three) → f · opposite x ≡ negℤ (f · x)
 unfolding _·_
 form-opposite f x = simp ints (omega arith)
@@ -41,6 +45,13 @@ module _ (g : ℕ) (h : g < 12) (f : Bool) (x : Three) where
       let m = parts (operated (even g) f g x) in
       rw (matched-in-parts K g f (opposite x), matched-in-parts K g f x, parts-opposite, *ℤ-negℤ K m) (nearestAway-neg (K *ℤ m) (65536 * 4053) (omega arith))
 
+-- so that of three zeros, which are their own opposite, is zero
+its-own-opposite : (x : ℤ) → x ≡ negℤ x → x ≡ pos 0
+its-own-opposite x = simp ints (omega arith)
+
+zeros-matched : (g : ℕ) → g < 12 → (f : Bool) (K : ℤ) → matched K g f zeros ≡ pos 0
+zeros-matched g h f K = its-own-opposite (matched K g f zeros) (matched-opposite g h f zeros K)
+
 seen-opposite : (l : System) (x : Three) → seen l (opposite x) ≡ opposite (seen l x)
 unfolding seen
 seen-opposite sysA x = refl
@@ -51,7 +62,19 @@ phases-opposite : (xs : List ℤ) (z : ℕ) → phases (map negℤ xs) z ≡ opp
 phases-opposite xs z =
     rw (List·getD-map negℤ xs (3 * z) (pos 0), List·getD-map negℤ xs (3 * z + 1) (pos 0), List·getD-map negℤ xs (3 * z + 2) (pos 0))
 
+seen-zeros : (l : System) → seen l zeros ≡ zeros
+unfolding seen
+seen-zeros sysA = refl
+seen-zeros sysB = refl
+seen-zeros sysC = refl
+
 module _ (v : Setting) (start : T (startable v)) (xs : List ℤ) where
+  pub matchedAt-zero : (z : ℕ) → z < v .ends → (l : System) → phases xs z ≡ zeros → matchedAt v xs z l ≡ pos 0
+  unfolding matchedAt
+  matchedAt-zero z h l none =
+      let e = endOf v z in
+      rw (none, seen-zeros l) (zeros-matched (e .group) (startable-is v start .limits .group z h) (filtered e) (factor v z))
+
   matchedAt-negated : (z : ℕ) → z < v .ends → (l : System) → matchedAt v (map negℤ xs) z l ≡ negℤ (matchedAt v xs z l)
   unfolding matchedAt
   matchedAt-negated z h l =

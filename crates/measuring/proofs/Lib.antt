@@ -2,4 +2,5 @@
 mod PartLaws
 mod EndLaws
 mod Holding
+pub mod OneEndLaws
 pub mod Negated

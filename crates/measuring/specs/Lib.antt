@@ -6,3 +6,4 @@ pub mod WindowInput
 pub mod Folded
 pub mod Numbers
 pub mod Ends
+pub mod OneEnd

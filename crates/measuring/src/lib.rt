@@ -11,6 +11,7 @@ ghost use Rattle.measuring.specs.Folded.{CombinedInput, PlaceInput, Over
 ghost use Rattle.measuring.specs.Measuring.{start, readingsOf, ReadingsBy};
 ghost use Rattle.measuring.specs.Ends.{partOf, PartInput, AmplitudesFrom, StepsInput, taken as takenOf, RestraintInput, MeasuresEnds};
 ghost use Rattle.measuring.specs.Holding.{CommonBlocking};
+ghost use Rattle.measuring.specs.OneEnd.{OneEndAmplitude};
 ghost use Rattle.measuring.specs.WindowInput.{WindowInput, Measurable, SystemInput};
 use characteristic::Currents;
 use characteristic::Held;
@@ -291,4 +292,9 @@ pub fn measure(v: Setting, win: &[i32]) -> Readings
 // Which systems hold back others (02, card 4): no code, the statement and its proof.
 pub fn common_blocking()
     ensures { λ _. ⌜ CommonBlocking ⌝ }
+{}
+
+// At a fault fed from one end D and R are that end's amplitude: no code, the statement and its proof.
+pub fn one_end()
+    ensures { λ _. ⌜ OneEndAmplitude ⌝ }
 {}

@@ -82,7 +82,7 @@ index-system z sysA = let e : (3 * z + 0) % 3 ≡ 0 = omega arith in rw e
 index-system z sysB = let e : (3 * z + 1) % 3 ≡ 1 = omega arith in rw e
 index-system z sysC = let e : (3 * z + 2) % 3 ≡ 2 = omega arith in rw e
 
-index-small : (l : System) → index l < 3
+pub index-small : (l : System) → index l < 3
 index-small sysA = omega arith
 index-small sysB = omega arith
 index-small sysC = omega arith
@@ -94,7 +94,7 @@ module _ (v : Setting) (s : T (startable v)) where
   -- ---- the sets filed
 
   -- what stands in a place
-  number-at : (xs : List ℤ) (z : ℕ) (l : System) → z < v .ends → numberAt (numbers v xs) z l ≡ matchedAt v xs z l
+  pub number-at : (xs : List ℤ) (z : ℕ) (l : System) → z < v .ends → numberAt (numbers v xs) z l ≡ matchedAt v xs z l
   unfolding numbers
   number-at xs z l h =
       let i = index-small l in

@@ -14,7 +14,7 @@ use Rattle.state.proofs.RowLaws.{latched-in-a-row, counted-in-a-row}
 use Rattle.relay.specs.declared.Relay.{Relay}
 use Rattle.relay.specs.Record.{fresh}
 use Rattle.relay.specs.Calls.{windowAfter, elementNow, relayNow, refusedRelay, cleared}
-use Rattle.relay.specs.Lists.{Call}
+use Rattle.relay.specs.Lists.{Call, run}
 use Rattle.relay.proofs.Kept.{Valid, Step, files, declines, clears, reads, resets-by-page, writes}
 use Rattle.relay.proofs.Induction.{Invariant, along, last, any-call}
 use Rattle.stability.specs.Trips.{Trail, trailing, trail, elementAt, Latched, Counted}
@@ -55,8 +55,11 @@ module _ (v : Setting) (l : System) where
         keeps = λ h k p st. (traced-kept h k st, tt);
       }
 
+  pub traced : T (startable v) → (cs : List Call) → Valid v (run (fresh v) cs) × Traced (trail v l cs) (run (fresh v) cs)
+  traced s cs = last invariant (along invariant s (any-call cs))
+
   element-after : T (startable v) → (cs : List Call) → elementAt v l cs ≡ afterSets (v .confirm) (trail v l cs .counted)
-  element-after s cs = last invariant (along invariant s (any-call cs)) .1 .element
+  element-after s cs = traced s cs .1 .element
 
 pub latched : Latched
 unfolding Latched LatchedInARow

@@ -61,7 +61,7 @@ leading (suc n) (false ∷ bs) h = absurd (omega arith)
 at-newest : {n : ℕ} {bs : List Bool} → n ≤ rowNow bs → InARow n bs
 at-newest {n} {bs} h = record { newer = []; older = drop n bs; is = leading n bs h }
 
-at-older : {n : ℕ} {bs : List Bool} (b : Bool) → InARow n bs → InARow n (b ∷ bs)
+pub at-older : {n : ℕ} {bs : List Bool} (b : Bool) → InARow n bs → InARow n (b ∷ bs)
 at-older b r = record { newer = b ∷ r .newer; older = r .older; is = ap (λ (t : List Bool). b ∷ t) (r .is) }
 
 row-long : (n : ℕ) (bs : List Bool) → n ≤ rowNow (replicate n true ++ bs)

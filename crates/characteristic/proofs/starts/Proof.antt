@@ -19,7 +19,7 @@ mul-q c = search needs
 returns : tie.Need-returns
 returns c =
     let start = c .before .before .before in
-    rw (c .before .before .wide .ensures .is) (sym (in-first (start .args .v) _ _ (start .pre) (omega arith)))
+    rw (c .before .before .wide .ensures .is) (sym (in-first (start .args .v) _ _ (omega arith) (omega (arith, start .pre))))
 
 sub-past : tie.Need-sub-past
 sub-past c = search needs
@@ -31,7 +31,7 @@ returns-2 : tie.Need-returns-2
 returns-2 c =
     let start = c .before .before .before .before .before in
     rw (c .past .ensures, add-zero, c .before .before .before .before .wide .ensures .is)
-    (sym (in-second (start .args .v) _ _ (start .pre) (omega arith) (omega arith)))
+    (sym (in-second (start .args .v) _ _ (omega arith) (omega arith)))
 
 sub-past-2 : tie.Need-sub-past-2
 sub-past-2 c = search needs
@@ -46,7 +46,7 @@ returns-3 : tie.Need-returns-3
 returns-3 c =
     let start = c .before .before .before .before .before in
     rw (c .past2 .ensures, c .before .before .before .before .wide .ensures .is, c .before .before .before .wide2 .ensures .is)
-    (sym (in-third (start .args .v) _ _ (start .pre) (omega arith)))
+    (sym (in-third (start .args .v) _ _ (omega arith) (omega arith)))
 
 pub starts-spec : {M : Type 1} → statement M
 starts-spec =

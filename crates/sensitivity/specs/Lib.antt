@@ -1,0 +1,4 @@
+pub mod OneEnd
+pub mod Trips
+pub mod TwoSides
+pub mod Example
