@@ -16,7 +16,7 @@ SECOND = second/relay.c second/relay.h second/draw.c second/draw.h
 N = 4
 SEED = 1
 
-.PHONY: run test second stored proved host bench calls edits mutants fuzz speed clean
+.PHONY: run test second stored proved host bench calls slope-limit edits mutants fuzz speed clean
 
 run: $(BENCH)
 	$(BENCH) < examples/faults.blocks
@@ -106,6 +106,10 @@ bench: $(BENCH) build/bench
 calls: $(CALLS) build/calls
 	build/calls expect > build/calls.out
 	build/calls input | $(CALLS) | cmp - build/calls.out
+
+# A wrong program across two crates: a slope limit of 250 percent in the rules of a setting, which the promise of a fault fed from one end must refuse.
+slope-limit:
+	tests/slope-limit
 
 edits:
 	tests/more-edits

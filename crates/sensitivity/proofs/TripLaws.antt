@@ -4,6 +4,7 @@ use mathlib.Core.Path.{_≡_, refl, sym, ap, _∙_}
 use mathlib.Core.Bool.{Bool, true, false, not, _&&_, cond, and-false, or-true, true≢false}
 use mathlib.Core.List.{List, [], _∷_, _++_, foldl}
 use Prim.Native.Nat.{ℕ, zero, suc}
+use native.Mathlib.Omega.{arith}
 use lib.Dec.{T}
 use lib.IntN.{ℤ}
 use lib.ListN.{length, replicate}
@@ -23,6 +24,7 @@ use Rattle.overcurrent.specs.Ends.{tripsOf}
 use Rattle.relay.specs.declared.Measure.{Measure}
 use Rattle.relay.specs.declared.Relay.{Relay}
 use Rattle.relay.specs.Calls.{accepted, Reply, filling, measured, counting, windowAfter, measureNow, backupNow, replyNow, relayNow, sampleReply}
+use Rattle.relay.specs.Page.{resets}
 use Rattle.relay.specs.Lists.{Call, sample, reset, read, write, after, Every}
 use Rattle.relay.proofs.Kept.{Valid, Step, files, declines, step, valid-after}
 use Rattle.stability.specs.Lists.{filing, last12, windowOf}
@@ -98,9 +100,10 @@ trips : (v : Setting) → T (startable v) → (Fault : System → List ℤ → M
 unfolding Latched
 trips v s Fault sure before faults l long es =
     let (h, k) = traced v l s before in
-    let t = trail v l before in
+    let older = trail v l before .counted in
+    let all : length faults ≡ v .confirm = omega arith in
     let is = ap (λ (t : Trail). t .counted) (trail-++ v l (trail v l []) before faults) ∙ row v Fault sure l h k faults es in
-    latched v s (before ++ faults) l .1 (record { newer = []; older = t .counted; is = is ∙ rw long })
+    latched v s (before ++ faults) l .1 (record { newer = []; older = older; is = is ∙ rw all })
 
 -- ---- faults at which a system counts
 
@@ -148,7 +151,11 @@ module _ (v : Setting) (l : System) where
       by false = r
   row-kept t reset e r = absurd (true≢false e)
   row-kept t (read o) e r = r
-  row-kept t (write o x) e r = rw e r
+  row-kept t (write o x) e r = by (resets o x) e
+    where
+      by : (b : Bool) → b ≡ false → InARow (v .confirm) (cond b [] (t .counted))
+      by true e = absurd (true≢false e)
+      by false e = r
 
   rows-kept : (t : Trail) (later : List Call) → Each (λ c. resetting c ≡ false) later → InARow (v .confirm) (t .counted) →
       InARow (v .confirm) (foldl (trailing v l) t later .counted)
