@@ -1,6 +1,7 @@
 # make run      proves and builds the bench program, and runs it on a fault beyond the bank and then one inside it.
 # make test     every test: the second program's own checks, the files that it makes against those stored, the C calls and the bench program against
-#               it, and the Rattle gate, which proves each crate, tries each must-fail edit and runs each program (tests/gate).
+#               it, a wrong program across crates, and the Rattle gate, which proves each crate, tries each must-fail edit and runs each program
+#               (tests/gate).
 # make edits    the must-fail edits that the gate leaves out for time.
 # make mutants  wrong programs drawn by chance from the source, which must be refused as well: N for each crate, by SEED.
 # make fuzz     a million blocks through the C calls against the second program, built with the address and undefined-behaviour sanitizers.

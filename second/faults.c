@@ -1097,14 +1097,14 @@ static void go_spots(struct draw *d, struct watch *w, size_t z, size_t n)
              "a spot is not met");
         met.missed++;
     }
-    must(w->sections[z] == (largest > 2 * s->third_section ? 7u
-                            : largest > s->pick_up         ? 3u : 1u),
-         "a section that can be reached is not met");
+    must((w->sections[z] & ~(largest > 2 * s->third_section ? 7u
+                             : largest > s->pick_up         ? 3u : 1u)) == 0,
+         "a section that can't be reached is met");
 }
 
-/* Every combination: each section is met that can be reached, which are all at a factor
- * of 1/2 or more. R is D, so the first has no D above P, and the others have no other:
- * there all start. */
+/* Every combination: at a factor of 1/2 or more each section is met, below it none that
+ * the largest D doesn't reach. R is D, so the first has no D above P, and the others
+ * have no other: there all start. */
 static void all_combinations(struct draw *d)
 {
     struct combination c;
