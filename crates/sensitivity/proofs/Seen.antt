@@ -32,7 +32,7 @@ use Rattle.state.specs.State.{elementAfter, windowWith}
 use Rattle.relay.specs.declared.Measure.{Measure}
 use Rattle.relay.specs.Record.{fresh, admissible}
 use Rattle.relay.specs.Calls.{setRows, sampleRows, backupNow, replyNow, relayNow}
-use Rattle.sensitivity.specs.Trips.{FreeFault}
+use Rattle.sensitivity.specs.Trips.{UnblockedFault}
 use Rattle.sensitivity.specs.Example.{steepest, before, faults, SteepestSeen}
 
 module _ (v : Setting) (l : System) (win : List ℤ) (m : Measure) (z : ℕ) where
@@ -40,7 +40,7 @@ module _ (v : Setting) (l : System) (win : List ℤ) (m : Measure) (z : ℕ) whe
   sole k e = eqb e z || eqZ (at win k e l) (pos 0)
 
   fault-of : T (ltb z (v .ends)) → T (every 12 (λ k. every (v .ends) (sole k))) → T (ltb (v .thresholds .basic) (m .reading .d)) →
-      m .reading .blocked ≡ false → FreeFault v l win m
+      m .reading .blocked ≡ false → UnblockedFault v l win m
   fault-of used others above free =
       record {
         fault =

@@ -32,7 +32,7 @@ use Rattle.stability.specs.Trips.{Trail, trailing, trail, Latched}
 use Rattle.stability.proofs.Demand2.{window-now}
 use Rattle.stability.proofs.TripLaws.{Traced, traced-kept, traced, latched}
 use Rattle.sensitivity.specs.OneEnd.{OneEndStarts}
-use Rattle.sensitivity.specs.Trips.{OneEndFault, FreeFault, HighFault, ofSystem, MeasuredAs, Measures, Trips, OneEndTrips, UnblockedTrips, HighSetTrips, resetting, StaysLatched}
+use Rattle.sensitivity.specs.Trips.{OneEndFault, UnblockedFault, HighSetFault, ofSystem, MeasuredAs, Measures, LatchedAfter, OneEndTrips, BlockingOffTrips, HighSetTrips, resetting, StaysLatched}
 use Rattle.sensitivity.proofs.Starting.{one-end-starts}
 
 -- ---- one call that measures a fault
@@ -96,7 +96,7 @@ trail-++ : (v : Setting) (l : System) (t : Trail) (cs ds : List Call) →
 trail-++ v l t [] ds = refl
 trail-++ v l t (c ∷ cs) ds = trail-++ v l (trailing v l t c) cs ds
 
-trips : (v : Setting) → T (startable v) → (Fault : System → List ℤ → Measure → Type 0) → Counting v Fault → Trips v Fault
+trips : (v : Setting) → T (startable v) → (Fault : System → List ℤ → Measure → Type 0) → Counting v Fault → LatchedAfter v Fault
 unfolding Latched
 trips v s Fault sure before faults l long es =
     let (h, k) = traced v l s before in
@@ -115,7 +115,7 @@ fed-starts v s l win m e f = one-end-starts v s win l (f .end) (f .fed) .1 .1 (r
 pub one-end-trips : OneEndTrips
 unfolding OneEndTrips readingOf
 one-end-trips v s =
-    trips v s (FreeFault v) (λ l win m e f. let free : blocked v win l ≡ false = rw e at (f .not-blocked) in rw (fed-starts v s l win m e (f .fault), free))
+    trips v s (UnblockedFault v) (λ l win m e f. let free : blocked v win l ≡ false = rw e at (f .not-blocked) in rw (fed-starts v s l win m e (f .fault), free))
 
 module _ (v : Setting) (no-second : secondOn v ≡ false) (no-fifth : fifthOn v ≡ false) (win : List ℤ) where
   no-harmonics : (l : System) → harmonics v win l ≡ false
@@ -130,15 +130,15 @@ module _ (v : Setting) (no-second : secondOn v ≡ false) (no-fifth : fifthOn v 
   unfolding blocked
   none-blocked l = rw (no-harmonics l, none-holds sysA, none-holds sysB, none-holds sysC) (and-false (commonOn v))
 
-pub unblocked-trips : UnblockedTrips
-unfolding UnblockedTrips
-unblocked-trips v s no-second no-fifth =
+pub blocking-off-trips : BlockingOffTrips
+unfolding BlockingOffTrips
+blocking-off-trips v s no-second no-fifth =
     trips v s (OneEndFault v) (λ l win m e f. rw (fed-starts v s l win m e f, none-blocked v no-second no-fifth win l))
 
 pub high-set-trips : HighSetTrips
 unfolding HighSetTrips readingOf
 high-set-trips v s =
-    trips v s (HighFault v) (λ l win m e f. rw (lt-ltb (v .thresholds .high) (differential v win l) (rw e at f)) (or-true (start v win l && not (blocked v win l))))
+    trips v s (HighSetFault v) (λ l win m e f. rw (lt-ltb (v .thresholds .high) (differential v win l) (rw e at f)) (or-true (start v win l && not (blocked v win l))))
 
 -- ---- until a reset
 

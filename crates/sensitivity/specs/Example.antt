@@ -14,7 +14,7 @@ use Rattle.amplitude.specs.Amplitude.{t}
 use Rattle.measuring.specs.Measuring.{differential}
 use Rattle.relay.specs.Record.{fresh}
 use Rattle.relay.specs.Lists.{Call, sample, run, Every}
-use Rattle.sensitivity.specs.Trips.{FreeFault, Measures}
+use Rattle.sensitivity.specs.Trips.{UnblockedFault, Measures}
 
 -- two ends with K 65,536, all blocking on at its lowest percents, M 2, P 100, both slopes 150 percent and Q 1,500
 unfoldable pub steepest : Setting
@@ -49,6 +49,6 @@ unfoldable pub SteepestSeen : Type 0
 SteepestSeen =
     T (startable steepest)
     × (length faults ≡ steepest .confirm)
-    × Every (λ r. Unit {0}) (Measures (FreeFault steepest sysA) sysA) (run (fresh steepest) before) faults
+    × Every (λ r. Unit {0}) (Measures (UnblockedFault steepest sysA) sysA) (run (fresh steepest) before) faults
     × (differential steepest (run (fresh steepest) (before ++ faults) .window .values) sysA ≡ 7800)
     × (2 * steepest .thresholds .knee < 7800)

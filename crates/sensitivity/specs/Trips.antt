@@ -30,13 +30,13 @@ pub record OneEndFault (v : Setting) (l : System) (win : List ℤ) (m : Measure)
   pub above-P : v .thresholds .basic < m .reading .d
 
 -- such a fault, and no harmonics block the system
-pub record FreeFault (v : Setting) (l : System) (win : List ℤ) (m : Measure) : Type 0 where
+pub record UnblockedFault (v : Setting) (l : System) (win : List ℤ) (m : Measure) : Type 0 where
   pub fault : OneEndFault v l win m
   pub not-blocked : m .reading .blocked ≡ false
 
 -- its D is above H, from whichever ends it is fed
-abbrev pub HighFault : Setting → System → List ℤ → Measure → Type 0
-HighFault v l win m = v .thresholds .high < m .reading .d
+abbrev pub HighSetFault : Setting → System → List ℤ → Measure → Type 0
+HighSetFault v l win m = v .thresholds .high < m .reading .d
 
 -- ---- calls that measure such a fault
 
@@ -61,22 +61,22 @@ Measures F l r (write offset byte) = ⊥
 -- ---- the trips
 
 -- After any list of calls whose last M each measure a fault of the system, it is latched.
-abbrev pub Trips : (v : Setting) → (Fault : System → List ℤ → Measure → Type 0) → Type 0
-Trips v Fault =
+abbrev pub LatchedAfter : (v : Setting) → (Fault : System → List ℤ → Measure → Type 0) → Type 0
+LatchedAfter v Fault =
     (before faults : List Call) (l : System) → length faults ≡ v .confirm →
     Every (λ r. Unit {0}) (Measures (Fault l) l) (run (fresh v) before) faults → elementAt v l (before ++ faults) .latch ≡ true
 
--- On every setting that a relay can be started on: so a fault fed from one end, with D above P and not blocked, trips;
+-- On every setting that a relay can be started on, so trips a fault fed from one end, with D above P and not blocked;
 unfoldable pub OneEndTrips : Type 0
-OneEndTrips = (v : Setting) → T (startable v) → Trips v (FreeFault v)
+OneEndTrips = (v : Setting) → T (startable v) → LatchedAfter v (UnblockedFault v)
 
--- with blocking off (flags 0; or 4, where there is nothing to have in common) it trips without the last condition;
-unfoldable pub UnblockedTrips : Type 0
-UnblockedTrips = (v : Setting) → T (startable v) → secondOn v ≡ false → fifthOn v ≡ false → Trips v (OneEndFault v)
+-- with blocking off (flags 0; or 4, common blocking with nothing to have in common) it trips without the last condition;
+unfoldable pub BlockingOffTrips : Type 0
+BlockingOffTrips = (v : Setting) → T (startable v) → secondOn v ≡ false → fifthOn v ≡ false → LatchedAfter v (OneEndFault v)
 
--- and one with D above H trips from whichever ends it is fed, whatever is blocked.
+-- and so trips one with D above H, from whichever ends it is fed and whatever is blocked.
 unfoldable pub HighSetTrips : Type 0
-HighSetTrips = (v : Setting) → T (startable v) → Trips v (HighFault v)
+HighSetTrips = (v : Setting) → T (startable v) → LatchedAfter v (HighSetFault v)
 
 -- ---- until a reset
 

@@ -1,7 +1,7 @@
 // What the relay sees, the other side of demand 3: no code, the statements and their proofs.
 
 ghost use Rattle.sensitivity.specs.OneEnd.{OneEndStarts, OneEndSamples};
-ghost use Rattle.sensitivity.specs.Trips.{OneEndTrips, UnblockedTrips, HighSetTrips, StaysLatched};
+ghost use Rattle.sensitivity.specs.Trips.{OneEndTrips, BlockingOffTrips, HighSetTrips, StaysLatched};
 ghost use Rattle.sensitivity.specs.TwoSides.{TwoSides};
 ghost use Rattle.sensitivity.specs.Example.{SteepestSeen};
 
@@ -12,7 +12,7 @@ pub fn one_end()
 
 // Over lists of calls: such a fault trips within M measured sets, and so does any with D above H; the latch stays until a reset.
 pub fn trips()
-    ensures { λ _. ⌜ OneEndTrips × UnblockedTrips × HighSetTrips × StaysLatched ⌝ }
+    ensures { λ _. ⌜ OneEndTrips × BlockingOffTrips × HighSetTrips × StaysLatched ⌝ }
 {}
 
 // Both sides, and what lies between them.
