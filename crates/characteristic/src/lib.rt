@@ -133,8 +133,8 @@ pub fn slopes()
     ensures { λ _. ⌜ NotMoreEager × FallingEager × FallenEager ⌝ }
 {}
 
-// With R = D, as at a fault fed from one end, a system starts exactly when D > P; with slopes of 200 percent it would not: no code, the statements and their
-// proofs.
+// With R at most D, as at a fault fed from one end, a system starts exactly when D > P; with slopes of 200 percent it would not: no code, the statements and
+// their proofs.
 pub fn one_end()
     ensures { λ _. ⌜ StartsAboveP × BlindBySlope1 × BlindBySlope2 ⌝ }
 {}

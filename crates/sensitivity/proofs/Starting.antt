@@ -1,6 +1,7 @@
--- A fault fed from one end: D and R are the amplitude of that end, and with R = D a system starts exactly when D > P. Then the distance from P to the limits
+-- A fault fed from one end: D and R are the amplitude of that end, and with R at most D a system starts exactly when D > P. Then the distance from P to the limits
 -- of a healthy bank, by the limits of a setting.
 use mathlib.Core.Path.{sym, _∙_}
+use native.Mathlib.Nat.{le-refl}
 use native.Mathlib.Omega.{arith}
 use Rattle.setting.proofs.LimitLaws.{startable-is}
 use Rattle.amplitude.proofs.PeakLaws.{peak-small}
@@ -19,7 +20,7 @@ unfolding OneEndStarts OneEndAmplitude StartsAboveP
 one-end-starts v s win l z fed =
     let (d, r) = one-end-amplitude v win l z fed in
     let same = r ∙ sym d in
-    (same, rw same (starts-above-P v s (differential v win l)))
+    (same, rw same (starts-above-P v s (differential v win l) (differential v win l) (le-refl (differential v win l))))
 
 distance : Distance
 unfolding Distance
