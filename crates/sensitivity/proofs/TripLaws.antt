@@ -37,25 +37,23 @@ use Rattle.sensitivity.proofs.Starting.{one-end-starts}
 
 -- ---- one call that measures a fault
 
--- the system counts by its measure
-abbrev Counts : Setting → System → List ℤ → Type 0
-Counts v l win = counts v (differential v win l) (start v win l) (blocked v win l) ≡ true
-
--- where a fault makes the system count
+-- a system that measures such a fault counts
 abbrev Counting : Setting → (Fault : System → List ℤ → Measure → Type 0) → Type 0
-Counting v Fault = (l : System) (win : List ℤ) (m : Measure) → m .reading ≡ readingOf v win l → Fault l win m → Counts v l win
+Counting v Fault =
+    (l : System) (win : List ℤ) (m : Measure) → m .reading ≡ readingOf v win l → Fault l win m →
+    counts v (differential v win l) (start v win l) (blocked v win l) ≡ true
+
+reading-is : {v : Setting} (r : Relay) (w : Window) → r .setting ≡ v → (l : System) →
+    ofSystem (measureNow r w sysA) (measureNow r w sysB) (measureNow r w sysC) l .reading ≡ readingOf v (w .values) l
+reading-is r w same sysA = rw same
+reading-is r w same sysB = rw same
+reading-is r w same sysC = rw same
 
 one-more : (n : ℕ) (bs : List Bool) → replicate n true ++ (true ∷ bs) ≡ true ∷ (replicate n true ++ bs)
 one-more zero bs = refl
 one-more (suc n) bs = ap (λ (t : List Bool). true ∷ t) (one-more n bs)
 
 module _ (v : Setting) (Fault : System → List ℤ → Measure → Type 0) (sure : Counting v Fault) (l : System) where
-  reading-is : (r : Relay) (w : Window) → r .setting ≡ v → (l : System) →
-      ofSystem (measureNow r w sysA) (measureNow r w sysB) (measureNow r w sysC) l .reading ≡ readingOf v (w .values) l
-  reading-is r w same sysA = rw same
-  reading-is r w same sysB = rw same
-  reading-is r w same sysC = rw same
-
   measured-counts : (r : Relay) (w : Window) → r .setting ≡ v → MeasuredAs (Fault l (w .values)) l (gives (replyNow r w)) → counting v w l ≡ true
   unfolding replyNow
   measured-counts r w same m = by (full w) refl m

@@ -66,15 +66,15 @@ LatchedAfter v Fault =
     (before faults : List Call) (l : System) → length faults ≡ v .confirm →
     Every (λ r. Unit {0}) (Measures (Fault l) l) (run (fresh v) before) faults → elementAt v l (before ++ faults) .latch ≡ true
 
--- On every setting that a relay can be started on, so trips a fault fed from one end, with D above P and not blocked;
+-- On every setting that a relay can be started on: M sets of a fault fed from one end, with D above P and not blocked, trip;
 unfoldable pub OneEndTrips : Type 0
 OneEndTrips = (v : Setting) → T (startable v) → LatchedAfter v (UnblockedFault v)
 
--- with blocking off (flags 0; or 4, common blocking with nothing to have in common) it trips without the last condition;
+-- with blocking off (flags 0; or 4, common blocking with nothing to have in common), M sets of such a fault with D above P trip;
 unfoldable pub BlockingOffTrips : Type 0
 BlockingOffTrips = (v : Setting) → T (startable v) → secondOn v ≡ false → fifthOn v ≡ false → LatchedAfter v (OneEndFault v)
 
--- and so trips one with D above H, from whichever ends it is fed and whatever is blocked.
+-- M sets with D above H trip, from whichever ends they are fed and whatever is blocked.
 unfoldable pub HighSetTrips : Type 0
 HighSetTrips = (v : Setting) → T (startable v) → LatchedAfter v (HighSetFault v)
 
