@@ -100,7 +100,7 @@ static enum refusal bench_run(FILE *to, const uint8_t *bytes, size_t length)
 
 /* ---- Stored examples ---- */
 
-/* 400 MVA, 110 kV star and 20 kV delta, group 5, zero sequence out of the star
+/* 40 MVA, 110 kV star and 20 kV delta, group 5, zero sequence out of the star
  * side, both blockings, three sets to confirm. */
 static const struct setting bank = {
     .ends = 2, .flags = BLOCK_ON_SECOND | BLOCK_ON_FIFTH, .confirm = 3, .power = 400,

@@ -1018,7 +1018,7 @@ static void say_answer(const struct answer *a, const struct relay *relay)
     for (size_t y = 0; y < SYSTEMS; y++) {
         const struct measured *m = &a->system[y];
 
-        say(" %d %d %d %d %d %d %d", m->differential, m->restraint, m->second,
+        say(" %d %d %d %d %d %d %d", m->differential, m->twice_restraint, m->second,
             m->fifth, m->start, m->blocked, a->latched[y]);
     }
     for (size_t z = 0; z < MAX_ENDS; z++)

@@ -300,7 +300,7 @@ static void check_fed(const struct setting *s, const int32_t *values, size_t y,
     for (size_t z = 0; z < s->ends; z++)
         if (fed >> z & 1)
             must(d == ends_amplitude(values, 1u << z, y), "D is not the end's");
-    must(m->restraint == d, "R is not D");
+    must(m->twice_restraint == d, "R is not D");
     must(m->start == (d > s->pick_up), "it doesn't start just when D is above P");
     must(m->start == line_starts(&line, d, d), "the sections say otherwise");
     count_fed(s, fed, m);
@@ -467,7 +467,7 @@ static void count_view(struct watch *w, const struct measured *m, size_t y,
 
     for (size_t z = 0; z < s->ends; z++) {
         if (v->fed >> z & 1)
-            w->sections[z] |= 1u << section_of(&line, m[y].restraint);
+            w->sections[z] |= 1u << section_of(&line, m[y].twice_restraint);
         else
             hidden |= w->carried[z] >= WINDOW_SETS;
     }

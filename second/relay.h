@@ -91,10 +91,10 @@ struct setting {
 
 /* One measuring system's currents and decisions at a full window. */
 struct measured {
-    int32_t differential;   /* D */
-    int32_t restraint;      /* R, twice the restraint */
-    int32_t second;         /* H2 */
-    int32_t fifth;          /* H5 */
+    int32_t differential;    /* D */
+    int32_t twice_restraint; /* R */
+    int32_t second;          /* H2 */
+    int32_t fifth;           /* H5 */
     uint8_t start;
     uint8_t blocked;
 };
@@ -145,7 +145,7 @@ void match_set(const struct setting *setting, const int16_t samples[SET_NUMBERS]
                int32_t matched[SET_NUMBERS]);
 int32_t amplitude(const int32_t numbers[WINDOW_SETS], unsigned harmonic);
 int starts(const struct setting *setting, int64_t differential,
-           int64_t restraint);
+           int64_t twice_restraint);
 void measure_window(const struct setting *setting,
                     const int32_t values[WINDOW_NUMBERS],
                     struct measured system[SYSTEMS]);

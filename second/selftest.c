@@ -683,7 +683,7 @@ static int answer_same(const struct answer *a, const struct answer *b)
     for (size_t y = 0; y < SYSTEMS; y++) {
         const struct measured *m = &a->system[y], *o = &b->system[y];
 
-        same &= m->differential == o->differential && m->restraint == o->restraint &&
+        same &= m->differential == o->differential && m->twice_restraint == o->twice_restraint &&
                 m->second == o->second && m->fifth == o->fifth &&
                 m->start == o->start && m->blocked == o->blocked &&
                 a->latched[y] == b->latched[y];
@@ -851,7 +851,7 @@ static void single_sample(const struct single *one, int turn)
     meet("single matched", relay.values[SET_NUMBERS * one->place],
          turn ? -one->matched : one->matched);
     meet("single D", a.system[0].differential, one->d);
-    meet("single R", a.system[0].restraint, one->d);
+    meet("single R", a.system[0].twice_restraint, one->d);
     meet("single start", a.system[0].start, one->trip);
     meet("single latch", a.latched[0], one->trip);
 }
@@ -1220,7 +1220,7 @@ static void shadow_sample(struct shadow *p, enum refusal refusal,
         p->byte[1] |= (uint8_t)(a->system[y].start << y);
         p->byte[2] |= (uint8_t)(a->system[y].blocked << y);
         p->current[2 * y] = a->system[y].differential;
-        p->current[2 * y + 1] = a->system[y].restraint;
+        p->current[2 * y + 1] = a->system[y].twice_restraint;
     }
     p->byte[3] |= (p->byte[1] & ~started) != 0 ? 1 : 0;
     p->byte[3] |= (p->byte[0] & ~latched) != 0 ? 2 : 0;
@@ -2015,7 +2015,7 @@ static void check_unused_places(void)
             meet("D of ends in use", m[y].differential, wanted[y].differential);
             meet("H2 of ends in use", m[y].second, wanted[y].second);
             meet("H5 of ends in use", m[y].fifth, wanted[y].fifth);
-            meet("R of ends in use", m[y].restraint, wanted[y].restraint);
+            meet("R of ends in use", m[y].twice_restraint, wanted[y].twice_restraint);
         }
     }
 }

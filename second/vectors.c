@@ -141,7 +141,7 @@ static int64_t margin(const struct setting *s, int64_t d, int64_t r)
 static uint16_t near_pick_up(struct draw *d, const struct setting *s,
                              const struct measured *m)
 {
-    int64_t r = m->restraint, knee = 2 * (int64_t)s->third_section;
+    int64_t r = m->twice_restraint, knee = 2 * (int64_t)s->third_section;
     int64_t top = 200 * (int64_t)m->differential, p;
 
     if (r > knee)
@@ -174,9 +174,9 @@ static int64_t aim_characteristic(struct draw *d, struct vector *v, int past,
         trial.pick_up = near_pick_up(d, &trial, &m[y]);
         if (trial.pick_up == 0)
             continue;
-        if (third && m[y].restraint <= 2 * trial.third_section)
+        if (third && m[y].twice_restraint <= 2 * trial.third_section)
             continue;
-        over = margin(&trial, m[y].differential, m[y].restraint);
+        over = margin(&trial, m[y].differential, m[y].twice_restraint);
         over = past ? over - 1 : -over;
         if (over < 0 || over >= best)
             continue;
@@ -417,7 +417,7 @@ static int put_expected(const struct vector *v)
     for (size_t i = 0; i < WINDOW_NUMBERS; i++)
         printf("%s %d%s", i % 12 == 0 ? "v" : "", values[i], i % 12 == 11 ? "\n" : "");
     for (size_t y = 0; y < SYSTEMS; y++)
-        printf("m %d %d %d %d %d %d\n", m[y].differential, m[y].restraint,
+        printf("m %d %d %d %d %d %d\n", m[y].differential, m[y].twice_restraint,
                m[y].second, m[y].fifth, m[y].start, m[y].blocked);
     return 1;
 }
