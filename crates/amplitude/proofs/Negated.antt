@@ -1,4 +1,4 @@
--- Twelve numbers negated (02, card 1): c and s are negated, and the amplitude is the same.
+-- Twelve numbers negated (card 1): c and s are negated, and the amplitude is the same.
 use mathlib.Core.Path.{_≡_, _∙_}
 use Prim.Native.Nat.{ℕ, _+_, _*_, _%_, _<_}
 use native.Mathlib.Omega.{arith}

@@ -1,4 +1,4 @@
--- Amplitudes (document 01, "Amplitudes"): one-cycle sums over a window of 12 numbers, oldest k = 0. They stand in the place of the double
+-- Amplitudes (§ Amplitudes): one-cycle sums over a window of 12 numbers, oldest k = 0. They stand in the place of the double
 -- smoothing of source 001, 2.3.5.
 use mathlib.Core.List.{List, [], _∷_}
 use Prim.Native.Nat.{ℕ, _+_, _*_, _%_}
@@ -19,7 +19,7 @@ order first = 1
 order second = 2
 order fifth = 5
 
--- the constants t0 to t11
+-- the constants t0 to t11 (§ Amplitudes 2)
 abbrev pub constants : List ℤ
 constants =
     pos 1560 ∷ pos 1351 ∷ pos 780 ∷ pos 0 ∷ negsuc 779 ∷ negsuc 1350 ∷ negsuc 1559 ∷ negsuc 1350 ∷ negsuc 779 ∷ pos 0 ∷ pos 780 ∷ pos 1351 ∷ []
@@ -31,13 +31,14 @@ t k = getD constants k (pos 0)
 unfoldable pub weightedSum : (h from : ℕ) → (ℕ → ℤ) → ℤ
 weightedSum h from u = sum 12 (λ k. t ((h * k + from) % 12) *ℤ u k)
 
--- c for harmonic h of the numbers u: that sum from t[0], divided by 9,360, to the nearest, a half away from zero (02, card 1); s the same from t[9]
+-- c for harmonic h of the numbers u: that sum from t[0], divided by 9,360, to the nearest, a half away from zero; s the same from t[9]
+-- (§ Amplitudes 3)
 unfoldable pub cycle : (h from : ℕ) → (ℕ → ℤ) → ℤ
 cycle h from u = nearestAway (weightedSum h from u) 9360
 
 abbrev pub square : ℤ → ℕ
 square x = natAbs x * natAbs x
 
--- the amplitude: the largest whole number whose square is at most c² + s²
+-- the amplitude: the largest whole number whose square is at most c² + s² (§ Amplitudes 4)
 unfoldable pub amplitude : (h : ℕ) → (ℕ → ℤ) → ℕ
 amplitude h u = root (square (cycle h 0 u) + square (cycle h 9 u))

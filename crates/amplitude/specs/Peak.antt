@@ -1,4 +1,4 @@
--- The limits of D for a healthy bank (document 01, "A healthy bank"): 45, 69 or 91 for E 2, 3 or 4.
+-- The limits of D for a healthy bank (§ The three demands 3): 45, 69 or 91 thousandths of reference current for E 2, 3 or 4.
 use mathlib.Core.List.{[], _∷_}
 use Prim.Native.Nat.{ℕ, _*_, _≤_, _<_}
 use lib.IntN.{ℤ}

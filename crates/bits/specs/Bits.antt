@@ -1,4 +1,4 @@
--- Three bits (document 02, card 2: masks, flags and written values), each by its place, and as a number.
+-- Three bits (masks, flags and written values, § The register page), each by its place, and as a number.
 use mathlib.Core.Bool.{Bool, not, _&&_, _||_, cond}
 use Prim.Native.Nat.{ℕ, _+_, _/_, _%_}
 use lib.Dec.{eqb}

@@ -1,4 +1,4 @@
--- Little-endian numbers (document 01: multi-byte fields are little-endian; a sample is a signed 16-bit number), and runs of zero bytes.
+-- Little-endian numbers (the low byte first; a sample is a signed 16-bit number, § Words and units), and runs of zero bytes.
 use mathlib.Core.Path.{_≡_}
 use mathlib.Core.Bool.{Bool, cond}
 use mathlib.Core.List.{List, [], _∷_}

@@ -1,4 +1,4 @@
--- A quiet system (document 01, "A healthy bank"): with a D as small as a healthy bank's, nothing starts and nothing counts.
+-- A quiet system (§ The three demands 3): with a D as small as a healthy bank's, nothing starts and nothing counts.
 use mathlib.Core.Path.{_≡_}
 use mathlib.Core.Bool.{Bool, false}
 use Prim.Native.Nat.{ℕ, _≤_}

@@ -1,4 +1,5 @@
--- The characteristic (document 01, "Characteristic and trip"; source 001, 2.3) and harmonic blocking (source 002).
+-- The characteristic (§ Characteristic and trip; source 001, 2.3) and harmonic blocking (source 002). D, R, H2, H5, P, H and Q are in thousandths of
+-- reference current, and R is twice the restraint.
 use mathlib.Core.Bool.{Bool, _&&_, _||_, not}
 use Prim.Native.Nat.{ℕ, _+_, _*_, _-_, _/_, _%_}
 use lib.Dec.{leb, ltb, eqb}
@@ -6,7 +7,7 @@ use Rattle.setting.specs.declared.Setting.{Setting}
 use Rattle.setting.specs.declared.Thresholds.{Thresholds}
 use Rattle.characteristic.specs.declared.Held.{Held}
 
--- flags (01, "The setting block"): bit 0 second-harmonic blocking, bit 1 fifth, bit 2 common blocking
+-- flags (§ The setting block): bit 0 second-harmonic blocking, bit 1 fifth, bit 2 common blocking
 abbrev pub secondOn : Setting → Bool
 secondOn v = eqb (v .flags % 2) 1
 
@@ -16,7 +17,7 @@ fifthOn v = eqb (v .flags / 2 % 2) 1
 abbrev pub commonOn : Setting → Bool
 commonOn v = eqb (v .flags / 4 % 2) 1
 
--- The three sections, with R twice the restraint: a system starts when R ≤ P and D > P;
+-- The three sections, with R twice the restraint (§ Characteristic and trip 1): a system starts when R ≤ P and D > P;
 abbrev pub firstSection : Thresholds → (D R : ℕ) → Bool
 firstSection t D R = leb R (t .basic) && ltb (t .basic) D
 
@@ -32,11 +33,11 @@ thirdSection t D R =
 unfoldable pub starts : Setting → (D R : ℕ) → Bool
 starts v D R = firstSection (v .thresholds) D R || (secondSection (v .thresholds) D R || thirdSection (v .thresholds) D R)
 
--- It has harmonics when the second is on and 100·H2 > its percent times D, or likewise the fifth.
+-- It has harmonics when the second is on and 100·H2 > its percent times D, or likewise the fifth (§ Characteristic and trip 2).
 unfoldable pub hasHarmonics : Setting → (D H2 H5 : ℕ) → Bool
 hasHarmonics v D H2 H5 = (secondOn v && ltb (v .thresholds .second * D) (100 * H2)) || (fifthOn v && ltb (v .thresholds .fifth * D) (100 * H5))
 
--- Under common blocking it holds back others exactly when it has harmonics and its own D exceeds P (02, card 4).
+-- Under common blocking it holds back others exactly when it has harmonics and its own D exceeds P (§ Characteristic and trip 3).
 unfoldable pub holdsBack : Setting → (D H2 H5 : ℕ) → Bool
 holdsBack v D H2 H5 = hasHarmonics v D H2 H5 && ltb (v .thresholds .basic) D
 
@@ -44,6 +45,6 @@ holdsBack v D H2 H5 = hasHarmonics v D H2 H5 && ltb (v .thresholds .basic) D
 unfoldable pub heldBy : Setting → (D H2 H5 : ℕ) → Held
 heldBy v D H2 H5 = record { own = hasHarmonics v D H2 H5; others = holdsBack v D H2 H5 }
 
--- It counts when it starts and is not blocked, or when D > H.
+-- It counts when it starts and is not blocked, or when D > H (§ Characteristic and trip 4).
 abbrev pub counts : Setting → (D : ℕ) (start blocked : Bool) → Bool
 counts v D start blocked = (start && not blocked) || ltb (v .thresholds .high) D

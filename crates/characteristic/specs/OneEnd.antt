@@ -1,5 +1,5 @@
--- A system whose R is at most D, as at a fault fed from one end, where R = D (document 01, "Characteristic and trip"): where it starts, and why slopes end
--- below 200 percent.
+-- A system whose R, twice the restraint, is at most D, as at a fault fed from one end, where R = D: where it starts, and why slopes end below 200 percent
+-- (§ Characteristic and trip 1).
 use mathlib.Core.Path.{_≡_}
 use mathlib.Core.Logic.{_↔_}
 use mathlib.Core.Bool.{true, false}

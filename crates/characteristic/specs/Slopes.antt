@@ -1,4 +1,4 @@
--- Slopes that fall (document 02, card 7): why a relay is not started on them.
+-- Slopes that fall (§ Characteristic and trip 8): why a relay is not started on them.
 use mathlib.Core.Path.{_≡_}
 use mathlib.Core.Bool.{true}
 use Prim.Native.Nat.{ℕ, _+_, _*_, _-_, _≤_, _<_}

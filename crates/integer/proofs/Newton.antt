@@ -1,4 +1,4 @@
--- Newton's iteration for the root (document 02, card 5). A step from any number above 0 is not below the root; from above the root it is smaller, and
+-- Newton's iteration for the root (§ Amplitudes 5). A step from any number above 0 is not below the root; from above the root it is smaller, and
 -- at least halves the distance to it. So the turns are at most the binary digits of that distance, and the start is no farther than n's own digits say.
 use mathlib.Core.Path.{_≡_, refl, ap, subst}
 use mathlib.Core.Bool.{Bool, true, false, not, cond}

@@ -1,4 +1,4 @@
--- Rounding. K is to the nearest with a half up (document 01, "Matching"); matched numbers, c and s have a half away from zero (02, card 1).
+-- Rounding. K is to the nearest with a half up (§ Matching 2); matched numbers, c and s have a half away from zero (§ Matching 7, § Amplitudes 3).
 use Prim.Native.Nat.{ℕ, suc, _*_, _/_, _^_, _<_, _≤_}
 use lib.IntN.{ℤ, pos, negsuc, negℤ, _+ℤ_, _*ℤ_, _-ℤ_}
 use Rattle.integer.specs.Within.{_within_}

@@ -1,4 +1,4 @@
--- The whole square root (document 01, "Amplitudes": the largest whole number whose square is at most n).
+-- The whole square root (§ Amplitudes 4: the largest whole number whose square is at most n).
 use mathlib.Core.Path.{_≡_}
 use mathlib.Core.Bool.{Bool, true, false, cond}
 use Prim.Native.Nat.{ℕ, zero, suc, _+_, _*_, _-_, _/_, _^_, _≤_, _<_}
@@ -24,7 +24,7 @@ rootBy (suc most) (suc n) = raised (suc n) (2 * rootBy most (suc n / 4))
 abbrev pub root : ℕ → ℕ
 root n = rootBy n n
 
--- ---- how it is found (document 02, card 5)
+-- ---- how it is found (§ Amplitudes 5)
 
 -- how many binary digits n has, below 2 ^ 64: none for 0
 abbrev pub digits : ℕ → ℕ
@@ -68,7 +68,7 @@ pub record FewTurns : Type 0 where
   pub few : (n : ℕ) → n < 2 ^ 64 → turns n ≤ digits n
   pub none : turns 0 ≡ 0
 
--- what finding the root gives: the definition's number, and document 01's sentence of it; and the turns, one counted in each
+-- what finding the root gives: the definition's number, and the sentence of it (§ Amplitudes 4); and the turns, one counted in each
 pub record FindsRoot (n : ℕ) (f : Found) : Type 0 where
   pub same : f .root ≡ root n
   pub largest : Root n (f .root)

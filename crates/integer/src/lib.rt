@@ -74,7 +74,7 @@ pub fn root(x: u64) -> Found
     }
 }
 
-// No more turns than binary digits (02, card 5): no code, the statement and its proof.
+// No more turns than binary digits (§ Amplitudes 5): no code, the statement and its proof.
 pub fn few_turns()
     ensures { λ _. ⌜ FewTurns ⌝ }
 {}

@@ -1,4 +1,4 @@
--- The two curves (document 02, card 6; IEC 60255-151, curves B and C, multiplier 1, 600 sets a second).
+-- The two curves (§ Backup overcurrent 4; IEC 60255-151, curves B and C, multiplier 1, 600 sets a second).
 use mathlib.Core.Path.{_≡_}
 use mathlib.Core.Bool.{cond}
 use mathlib.Core.List.{List}

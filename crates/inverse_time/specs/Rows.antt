@@ -1,5 +1,5 @@
--- Measured sets in a row (document 02, card 6): the sum and the trip of an end by all the measured sets since the last reset. Of each only its j is looked at;
--- the newest stands first.
+-- Measured sets in a row (§ Backup overcurrent): the sum and the trip of an end by all the measured sets since the last reset. Of each only its j is
+-- looked at; the newest stands first.
 use mathlib.Core.Path.{_≡_}
 use mathlib.Core.Logic.{_↔_}
 use mathlib.Core.Bool.{true, cond}

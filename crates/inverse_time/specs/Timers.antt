@@ -1,11 +1,11 @@
--- The inverse-time element of an end, at a measured set (document 02, card 6).
+-- The inverse-time element of an end, at a measured set (§ Backup overcurrent).
 use mathlib.Core.Bool.{false, _||_, cond}
 use Prim.Native.Nat.{ℕ, _+_, _*_, _/_, _≤_, min}
 use lib.Dec.{ltb, eqb}
 use Rattle.inverse_time.specs.declared.Timer.{Timer}
 use Rattle.inverse_time.specs.Curves.{Curve, entry}
 
--- j = 10·A / X without remainder; above 200, j is 200
+-- j = 10·A / X without remainder; above 200, j is 200 (§ Backup overcurrent 2)
 unfoldable pub multiple : (X A : ℕ) → ℕ
 multiple X A = min 200 (10 * A / X)
 
@@ -17,11 +17,11 @@ mostSum = 1000000000
 unfoldable pub growth : Curve → (j : ℕ) → ℕ
 growth c j = mostSum / entry c j
 
--- below 11 the sum is cleared; from 11 up it grows, and stops at 1,000,000,000
+-- below 11 the sum is cleared; from 11 up it grows, and stops at 1,000,000,000 (§ Backup overcurrent 3)
 unfoldable pub sumAfter : Curve → (j sum : ℕ) → ℕ
 sumAfter c j s = cond (ltb j 11) 0 (min mostSum (s + growth c j))
 
--- where the element trips, and stays tripped
+-- where the element trips, and stays tripped (§ Backup overcurrent 5)
 unfoldable pub timerAfter : Curve → (j : ℕ) → Timer → Timer
 timerAfter c j t = record { sum = sumAfter c j (t .sum); trip = t .trip || eqb (sumAfter c j (t .sum)) mostSum }
 

@@ -1,4 +1,4 @@
--- Numbers worked out by hand from card 6 of document 02: what the definitions give, and what is to be met.
+-- Numbers worked out by hand (§ Backup overcurrent): what the definitions give, and what is to be met.
 use mathlib.Core.Path.{_≡_, refl}
 use mathlib.Core.Bool.{true, false}
 use mathlib.Core.List.{List, [], _∷_, map}

@@ -1,4 +1,4 @@
--- Samples negated (02, card 1): what the matching multiplies is a linear form of them, so it is negated, and with it the matched number. So that of samples
+-- Samples negated (card 1): what the matching multiplies is a linear form of them, so it is negated, and with it the matched number. So that of samples
 -- that are zero is zero.
 use mathlib.Core.Path.{_≡_, refl, ap, sym, _∙_}
 use mathlib.Core.Bool.{Bool, true, false, cond}

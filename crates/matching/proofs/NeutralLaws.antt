@@ -1,5 +1,5 @@
--- Neutral current: where w sums to zero over the limbs, one third of the sum is nothing, and the ideal currents are those of document 01. Their sum over the
--- phases of an end is a multiple of the sum of w, so it is nothing too, and three half units are left to the samples.
+-- Neutral current: where w sums to zero over the limbs, one third of the sum is nothing, and the ideal currents are those of the bank before card 8.
+-- Their sum over the phases of an end is a multiple of the sum of w, so it is nothing too, and three half units are left to the samples.
 use mathlib.Core.Path.{_≡_, sym, _∙_}
 use mathlib.Core.Bool.{Bool, true, false}
 use mathlib.Core.List.{List}
@@ -43,7 +43,7 @@ module _ (i : Quotient) (N B : ℕ) (c x s : ℤ) (e : s ≡ pos 0) where
   third-taken : Close N B c x (plusThird i s) → Close N B c x i
   third-taken h = cancel-times {k = 3} (lit≤ tt) (within-≤ (within-is (sym (tripled (i .under) N B (i .top) s c x e)) h) (omega arith))
 
--- the ideal of 01, and that of card 8
+-- the ideal before card 8, and that of it
 to-ideal : (e f : Bool) (g N B : ℕ) (w : Three) (c x : ℤ) → sum3 w ≡ pos 0 →
     Close N B c x (lineCurrent e g w) → Close N B c x (ideal e f g w)
 unfolding ideal gained

@@ -1,4 +1,4 @@
--- A healthy bank (document 01, "A healthy bank"; with neutral current, document 02, card 8), and the bound that its sets have.
+-- A healthy bank (§ A healthy bank), and the bound that its sets have.
 use mathlib.Core.Path.{_≡_}
 use mathlib.Core.Bool.{Bool, true, false}
 use mathlib.Core.List.{List}
@@ -13,9 +13,10 @@ use Rattle.setting.specs.Values.{endOf, factorTop, factorUnder, startable}
 use Rattle.matching.specs.Matching.{Three, Quotient, operation, even, sum3}
 use Rattle.matching.specs.Sets.{System, seen, phases, filtered, matchedAt}
 
--- ---- the ideal line current of a phase, in thousandths of a unit, step by step; a phase sees the limbs as its system does
+-- ---- the ideal line current of a phase, in thousandths of a sample's unit, step by step; a phase sees the limbs as its system does
 
--- T(12 − g) of w (T(0) for g = 0), 1351/2340 times at odd groups
+-- T(12 − g) of w (T(0) for g = 0), 1351/2340 times at odd groups (§ A healthy bank 4). So the matching, T(g), gives back w: 780/1351 times 1351/2340 is
+-- 1/3, and T(12 − g) after T(g) is a difference of differences, three times the number where the three sum to zero.
 unfoldable pub lineCurrent : (isEven : Bool) → ℕ → Three → Quotient
 lineCurrent true g w = record { top = operation ((12 - g) % 12) (w .p) (w .n) (w .q); under = 1 }
 lineCurrent false g w = record { top = pos 1351 *ℤ operation ((12 - g) % 12) (w .p) (w .n) (w .q); under = 2340 }
@@ -24,7 +25,7 @@ lineCurrent false g w = record { top = pos 1351 *ℤ operation ((12 - g) % 12) (
 abbrev pub plusThird : Quotient → ℤ → Quotient
 plusThird i s = record { top = pos 3 *ℤ i .top +ℤ pos (i .under) *ℤ s; under = 3 * i .under }
 
--- With the filter off, an odd group gains one third of the sum of w over the limbs (02, card 8).
+-- With the filter off, an odd group gains one third of the sum of w over the limbs (§ A healthy bank 5).
 unfoldable pub gained : (isEven filter : Bool) → Quotient → (s : ℤ) → Quotient
 gained true f i s = i
 gained false true i s = i
@@ -34,28 +35,29 @@ gained false false i s = plusThird i s
 unfoldable pub ideal : (isEven filter : Bool) → ℕ → Three → Quotient
 ideal e f g w = gained e f (lineCurrent e g w) (sum3 w)
 
--- divided by k = N/B
+-- divided by k = N/B (§ A healthy bank 6)
 abbrev pub overK : (N B : ℕ) → Quotient → Quotient
 overK N B i = record { top = pos B *ℤ i .top; under = i .under * N }
 
--- the common number c, added
+-- the common number c, added (§ A healthy bank 7)
 abbrev pub plusCommon : Quotient → ℤ → Quotient
 plusCommon i c = record { top = i .top +ℤ pos (i .under) *ℤ c; under = i .under }
 
 abbrev pub idealCurrent : (isEven filter : Bool) (g N B : ℕ) (w : Three) (c : ℤ) → Quotient
 idealCurrent e f g N B w c = plusCommon (overK N B (ideal e f g w)) c
 
--- a sample of x units lies within 1/2 of i thousandths
+-- a sample of x units lies within 1/2 of i thousandths of a unit (§ A healthy bank 8)
 abbrev pub NearIdeal : Quotient → ℤ → Type 0
 NearIdeal i x = Near x (i .top) (1000 * i .under)
 
--- The set xs holds, within half a unit per sample, the currents of a healthy bank of the setting v.
+-- The set xs holds, within half a unit per sample, the currents of a healthy bank of the setting v. A field that is a number, w or common, reads: there
+-- are such numbers.
 pub record Healthy (v : Setting) (xs : List ℤ) : Type 0 where
-  -- whole numbers w of thousandths, by end and limb A, B, C
+  -- there are whole numbers w, by end and limb A, B, C, in thousandths of a unit: that of a sample where k is 1 (§ A healthy bank 1)
   pub w : ℕ → Three
-  -- they sum to zero over the ends for each limb
+  -- they sum to zero over the ends for each limb (§ A healthy bank 2)
   pub over-ends : (l : System) → sum (v .ends) (λ z. seen l (w z) .p) ≡ pos 0
-  -- and over the limbs at each end with the filter on; with the filter off they may sum to anything (02, card 8)
+  -- and over the limbs at each end with the filter on; with the filter off they may sum to anything (§ A healthy bank 3)
   pub over-limbs : (z : ℕ) → z < v .ends → filtered (endOf v z) ≡ true → sum3 (w z) ≡ pos 0
   -- one more whole number of thousandths at each end with the filter on, the same on its three phases
   pub common : ℕ → ℤ
@@ -72,7 +74,7 @@ pub record Healthy (v : Setting) (xs : List ℤ) : Type 0 where
 abbrev pub InReach : Setting → List ℤ → Type 0
 InReach v xs = (z : ℕ) → z < v .ends → (l : System) → (seen l (phases xs z) .p) within 32000
 
--- the sum of v over the ends in use
+-- the sum of v over the ends in use, in thousandths of reference current
 unfoldable pub total : Setting → List ℤ → System → ℤ
 total v xs l = sum (v .ends) (λ z. matchedAt v xs z l)
 

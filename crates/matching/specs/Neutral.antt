@@ -1,5 +1,5 @@
--- Neutral current (document 02, card 8; source 001, 3.4.2). The bank as document 01 has it carries none: w sums to zero over the limbs at every end. It
--- is that case of the wider bank.
+-- Neutral current (§ A healthy bank 3 and 5, card 8; source 001, 3.4.2). The bank as it was before that request carries none: w sums to zero over the
+-- limbs at every end. It is that case of the wider bank.
 use mathlib.Core.Path.{_≡_}
 use mathlib.Core.Bool.{false}
 use mathlib.Core.List.{List}
@@ -14,9 +14,9 @@ use Rattle.matching.specs.Matching.{Three, even, sum3}
 use Rattle.matching.specs.Sets.{System, seen, phases, filtered}
 use Rattle.matching.specs.Bank.{lineCurrent, overK, plusCommon, NearIdeal, Healthy}
 
--- The set xs holds, within half a unit per sample, the currents of a healthy bank of the setting v as document 01 has it.
+-- The set xs holds, within half a unit per sample, the currents of a healthy bank of the setting v as it was before card 8.
 pub record WithoutNeutral (v : Setting) (xs : List ℤ) : Type 0 where
-  -- whole numbers w of thousandths, by end and limb A, B, C
+  -- there are whole numbers w, by end and limb A, B, C, in thousandths of a unit
   pub w : ℕ → Three
   -- they sum to zero over the ends for each limb
   pub over-ends : (l : System) → sum (v .ends) (λ z. seen l (w z) .p) ≡ pos 0

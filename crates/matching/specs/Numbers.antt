@@ -1,5 +1,5 @@
--- Worked numbers at every group: of the matching, by source 001, and of the ideal currents of a bank, by documents 01 and 02. Each is one table, and one
--- lemma over it. Those that document 01 marks (T) stand in the crate `measuring`.
+-- Worked numbers at every group: of the matching, by source 001, and of the ideal currents of a bank, by § A healthy bank. Each is one table, and one
+-- lemma over it. Those that § Numbers to meet marks (T) stand in the crate `measuring`.
 use mathlib.Core.Path.{_≡_, refl}
 use mathlib.Core.Bool.{Bool, true, false}
 use mathlib.Core.List.{List, [], _∷_, map}
@@ -69,7 +69,7 @@ groups-met : map (λ r. r .0) groups ≡ map (λ r. r .1) groups
 unfolding groups trio seen matched operated operation nearestAway nearest floor
 groups-met = refl
 
--- ---- 01, "A healthy bank", and 02, card 8: the ideal line currents of a bank, at every group
+-- ---- § A healthy bank 4 to 7: the ideal line currents of a bank, at every group
 
 -- currents of the limbs that are all different and sum to 9360
 abbrev limbs : Three

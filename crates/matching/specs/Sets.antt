@@ -1,4 +1,4 @@
--- The matched numbers of a sample set (document 01, "Matching" and "Characteristic and trip": 12 places of matched numbers by end and system).
+-- The matched numbers of a sample set (§ Matching; by end and system, § The relay record 1).
 use mathlib.Core.Bool.{Bool, cond}
 use mathlib.Core.List.{List}
 use Prim.Native.Nat.{ℕ, zero, suc, _+_, _*_, _/_, _%_}
@@ -12,7 +12,7 @@ use Rattle.setting.specs.Values.{endOf, factor}
 use Rattle.matching.specs.declared.Trio.{Trio}
 use Rattle.matching.specs.Matching.{Three, three, matched}
 
--- Systems 1, 2, 3 belong to phases A, B, C, and to the limbs A, B, C of a bank.
+-- Systems 1, 2, 3 belong to phases A, B, C (§ Words and units), and to the limbs A, B, C of a bank.
 pub data System : Type 0 where
   sysA : System
   sysB : System

@@ -18,8 +18,8 @@ use Rattle.matching.specs.Sets.{System, sysA, sysB, sysC, index, system}
 use Rattle.amplitude.specs.Amplitude.{amplitude}
 use Rattle.measuring.specs.Window.{series}
 use Rattle.measuring.specs.WindowInput.{Ends}
-use Rattle.measuring.specs.Folded.{Folds, PartsLike, OverInput, FirstOf, partAt, firstBy, restraintBy}
-use Rattle.measuring.specs.Ends.{partOf, AmplitudesFrom, StepsInput, taken, EndsOf, RestraintInput}
+use Rattle.measuring.specs.Folded.{Folds, PartsLike, OverInput, FirstOf, partAt, firstBy, twiceRestraintBy}
+use Rattle.measuring.specs.Ends.{partOf, AmplitudesFrom, StepsInput, taken, EndsOf, TwiceRestraintInput}
 use Rattle.measuring.proofs.PartLaws.{first-at}
 
 -- ---- the amplitudes, a store at a time
@@ -111,8 +111,8 @@ module _ {f : List ℤ} {E n : ℕ} {a : List ℕ} (e : n ≡ 3 * E) (y : ℕ) (
 
 -- R
 pub restraint-by-ends : {E y : ℕ} {f : List ℤ} {a : List ℕ} → EndsOf E f y a → 3 ≤ E → E ≤ 4 →
-    getD a y 0 + getD a (3 + y) 0 + getD a (6 + y) 0 + getD a (9 + y) 0 ≡ restraintBy E f y
-unfolding restraintBy
+    getD a y 0 + getD a (3 + y) 0 + getD a (6 + y) 0 + getD a (9 + y) 0 ≡ twiceRestraintBy E f y
+unfolding twiceRestraintBy
 restraint-by-ends {E} {y} {f} {a} h three four = by (ℕ-discrete E 3)
   where
     first : getD a y 0 ≡ firstBy (λ p. partAt f p 0 y)
@@ -124,7 +124,7 @@ restraint-by-ends {E} {y} {f} {a} h three four = by (ℕ-discrete E 3)
     third : getD a (6 + y) 0 ≡ firstBy (λ p. partAt f p 2 y)
     third = h .is (6 + y) 2 (omega arith) (omega arith)
 
-    by : Dec (E ≡ 3) → getD a y 0 + getD a (3 + y) 0 + getD a (6 + y) 0 + getD a (9 + y) 0 ≡ restraintBy E f y
+    by : Dec (E ≡ 3) → getD a y 0 + getD a (3 + y) 0 + getD a (6 + y) 0 + getD a (9 + y) 0 ≡ twiceRestraintBy E f y
     by (yes e) = rw (e, first, second, third, h .none (9 + y) 3 (omega arith) (omega arith)) (omega arith)
     by (no d) = let e : E ≡ 4 = omega arith in rw (e, first, second, third, h .is (9 + y) 3 (omega arith) (omega arith)) (omega arith)
 
@@ -136,10 +136,10 @@ module _ {f : List ℤ} {E n : ℕ} (asked : Bool) (e : n ≡ taken E asked) whe
       record { parts = parts; start = start; some = some; few = few; within = rw e (taken-within E asked ends) }
 
   module _ {y : ℕ} {a : List ℕ} (over : OverInput f E 0 y) where
-    pub ready-by-all : AmplitudesFrom f 0 1 n n a → RestraintInput f E y a
+    pub ready-by-all : AmplitudesFrom f 0 1 n n a → TwiceRestraintInput f E y a
     ready-by-all h = record { over = over; twelve = h .long; ends = λ three. of-all (e ∙ taken-three E asked three) y (over .place .system) h }
 
-    pub ready-by-one : AmplitudesFrom f y 3 n n a → RestraintInput f E y a
+    pub ready-by-one : AmplitudesFrom f y 3 n n a → TwiceRestraintInput f E y a
     ready-by-one h = record { over = over; twelve = h .long; ends = λ three. of-one (e ∙ taken-three E asked three) y (over .place .system) h }
 
   -- asked for, they are those of the window

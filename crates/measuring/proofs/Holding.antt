@@ -1,5 +1,5 @@
--- Common blocking (02, card 4): a system holds back others by its harmonics and its D, which its own numbers tell. So one with harmonics and a D above P
--- blocks all three, and one with a D of at most P holds back none, whatever its numbers are.
+-- Common blocking (§ Characteristic and trip 3): a system holds back others by its harmonics and its D, which its own numbers tell. So one with harmonics
+-- and a D above P blocks all three, and one with a D of at most P holds back none, whatever its numbers are.
 use mathlib.Core.Path.{_≡_, refl, sym, ap, _∙_}
 use mathlib.Core.Logic.{_≢_}
 use mathlib.Core.Bool.{Bool, true, false, _&&_, _||_, or-true, and-false, and-eq-true-iff, true≢false}

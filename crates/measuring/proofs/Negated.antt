@@ -1,4 +1,4 @@
--- A window negated (02, card 1): the numbers that amplitudes are taken of are negated, and what is measured is the same.
+-- A window negated (card 1): the numbers that amplitudes are taken of are negated, and what is measured is the same.
 use mathlib.Core.Path.{_≡_, refl, _∙_}
 use mathlib.Core.List.{List, map}
 use Prim.Native.Nat.{ℕ, zero, suc, _+_, _*_}

@@ -1,5 +1,5 @@
 -- A system fed from one end. Of a sum over the ends one term is left, so D is the amplitude of that end. With two ends R is that of the end or of its
--- numbers negated, which is the same (02, card 1); with more it is a sum of amplitudes, of which all others are zero.
+-- numbers negated, which is the same (card 1); with more it is a sum of amplitudes, of which all others are zero.
 use mathlib.Core.Path.{_≡_, refl}
 use mathlib.Core.Logic.{_≢_}
 use mathlib.Core.Bool.{Bool, true, false, cond}

@@ -27,7 +27,7 @@ use Rattle.amplitude.proofs.Parts.{first-by-parts, second-by-parts, fifth-by-pa
 use Rattle.measuring.specs.Window.{at, series, sums, difference}
 use Rattle.measuring.specs.Measuring.{sumℕ, twiceRestraint, currentsOf}
 use Rattle.measuring.specs.WindowInput.{WindowInput}
-use Rattle.measuring.specs.Folded.{column, combined, Folds, PartsLike, partAt, overEnds, firstBy, restraintBy, currentsWith, currentsBy}
+use Rattle.measuring.specs.Folded.{column, combined, Folds, PartsLike, partAt, overEnds, firstBy, twiceRestraintBy, currentsWith, currentsBy}
 
 -- ---- the parts as the machine adds them up over the ends
 
@@ -215,9 +215,9 @@ module _ {win f : List ℤ} (h : Folds win f) (y : ℕ) (l : y < 3) where
   over E four (suc n) m = rw (over E four n (omega arith), first-at n (omega arith))
 
   module _ (E : ℕ) (four : E ≤ 4) where
-    restraint-is : restraintBy E f y ≡ twiceRestraint E win (system y)
-    unfolding restraintBy twiceRestraint
-    restraint-is =
+    twiceRestraint-is : twiceRestraintBy E f y ≡ twiceRestraint E win (system y)
+    unfolding twiceRestraintBy twiceRestraint
+    twiceRestraint-is =
         rw (
           of-difference 0 (omega arith),
           of-difference 1 (omega arith),
@@ -238,7 +238,7 @@ module _ {win f : List ℤ} (h : Folds win f) (y : ℕ) (l : y < 3) where
           of-sums E four 3 (omega arith),
           of-sums E four 4 (omega arith),
           of-sums E four 5 (omega arith),
-          restraint-is,
+          twiceRestraint-is,
           first-by-parts u,
           second-by-parts u,
           fifth-by-parts u,

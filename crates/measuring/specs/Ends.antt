@@ -1,5 +1,5 @@
--- The h = 1 amplitudes of the ends by the parts of a window: R is made of them with three or four ends, and the overcurrent elements look at them (document
--- 02, card 6).
+-- The h = 1 amplitudes of the ends by the parts of a window: R, twice the restraint, is made of them with three or four ends (§ Amplitudes 7), and the
+-- overcurrent elements look at them (§ Backup overcurrent 2).
 use mathlib.Core.Path.{_≡_}
 use mathlib.Core.Bool.{Bool, not, _&&_, cond}
 use mathlib.Core.List.{List}
@@ -56,7 +56,7 @@ pub record EndsOf (E : ℕ) (f : List ℤ) (y : ℕ) (a : List ℕ) : Type 0 whe
   pub none : (i z : ℕ) → i ≡ 3 * z + y → E ≤ z → getD a i 0 ≡ 0
   pub small : (i : ℕ) → getD a i 0 ≤ 32000000
 
-pub record RestraintInput (f : List ℤ) (E y : ℕ) (a : List ℕ) : Type 0 where
+pub record TwiceRestraintInput (f : List ℤ) (E y : ℕ) (a : List ℕ) : Type 0 where
   pub over : OverInput f E 0 y
   pub twelve : length a ≡ 12
   pub ends : 3 ≤ E → EndsOf E f y a

@@ -71,12 +71,13 @@ pub record FirstOf (g : ℕ → ℤ) (r : ℕ) : Type 0 where
   pub is : r ≡ firstBy g
   pub small : r ≤ 32000000
 
-unfoldable pub restraintBy : (ends : ℕ) → List ℤ → (y : ℕ) → ℕ
-restraintBy E f y = cond (eqb E 2) (firstBy (λ p. partAt f p 0 y -ℤ partAt f p 1 y)) (sumℕ E (λ z. firstBy (λ p. partAt f p z y)))
+-- R, twice the restraint
+unfoldable pub twiceRestraintBy : (ends : ℕ) → List ℤ → (y : ℕ) → ℕ
+twiceRestraintBy E f y = cond (eqb E 2) (firstBy (λ p. partAt f p 0 y -ℤ partAt f p 1 y)) (sumℕ E (λ z. firstBy (λ p. partAt f p z y)))
 
--- with this R
+-- with this R, twice the restraint
 unfoldable pub currentsWith : (ends : ℕ) → List ℤ → (y r : ℕ) → Currents
 currentsWith E f y r = let g : ℕ → ℤ = λ p. overEnds E f p y in record { d = firstBy g; r = r; h2 = secondBy g; h5 = fifthBy g }
 
 abbrev pub currentsBy : (ends : ℕ) → List ℤ → (y : ℕ) → Currents
-currentsBy E f y = currentsWith E f y (restraintBy E f y)
+currentsBy E f y = currentsWith E f y (twiceRestraintBy E f y)

@@ -1,4 +1,4 @@
--- Common blocking (document 02, card 4): what a system does to the others, told by harmonics and D alone.
+-- Common blocking (§ Characteristic and trip 3): what a system does to the others, told by harmonics and D alone.
 use mathlib.Core.Path.{_≡_}
 use mathlib.Core.Logic.{_≢_}
 use mathlib.Core.Bool.{true, false}

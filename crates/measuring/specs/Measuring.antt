@@ -1,4 +1,4 @@
--- What is measured of a full window (document 01, "Amplitudes" and "Characteristic and trip").
+-- What is measured of a full window (§ Amplitudes, § Characteristic and trip). D, R, H2 and H5 are in thousandths of reference current.
 use mathlib.Core.Path.{_≡_}
 use mathlib.Core.Bool.{Bool, _&&_, _||_, cond}
 use mathlib.Core.List.{List}
@@ -14,7 +14,7 @@ use Rattle.measuring.specs.declared.Reading.{Reading}
 use Rattle.measuring.specs.declared.Readings.{Readings}
 use Rattle.measuring.specs.Window.{series, sums, difference}
 
--- D, H2 and H5 are the amplitudes for h = 1, 2, 5 of the sum of v over the ends.
+-- D, H2 and H5 are the amplitudes for h = 1, 2, 5 of the sum of v over the ends (§ Amplitudes 6).
 abbrev pub differential : Setting → List ℤ → System → ℕ
 differential v win l = amplitude 1 (sums (v .ends) win l)
 
@@ -29,7 +29,7 @@ abbrev pub sumℕ : ℕ → (ℕ → ℕ) → ℕ
 sumℕ zero f = 0
 sumℕ (suc n) f = sumℕ n f + f n
 
--- R is twice the restraint: for E = 2 the h = 1 amplitude of end 0 minus end 1; else the sum of each end's.
+-- R is twice the restraint: for E = 2 the h = 1 amplitude of end 0 minus end 1; else the sum of each end's (§ Amplitudes 7).
 unfoldable pub twiceRestraint : (ends : ℕ) → List ℤ → System → ℕ
 twiceRestraint E win l = cond (eqb E 2) (amplitude 1 (difference win l)) (sumℕ E (λ z. amplitude 1 (series win z l)))
 
@@ -43,7 +43,8 @@ harmonics v win l = hasHarmonics v (differential v win l) (second v win l) (fift
 unfoldable pub holding : Setting → List ℤ → System → Bool
 holding v win l = holdsBack v (differential v win l) (second v win l) (fifth v win l)
 
--- It is blocked when it has harmonics, or, with common blocking, when any system holds back others. (One that does has harmonics and is blocked too.)
+-- It is blocked when it has harmonics, or, with common blocking, when any system holds back others (§ Characteristic and trip 3). One that does has
+-- harmonics and is blocked too.
 unfoldable pub blocked : Setting → List ℤ → System → Bool
 blocked v win l = harmonics v win l || (commonOn v && (holding v win sysA || (holding v win sysB || holding v win sysC)))
 

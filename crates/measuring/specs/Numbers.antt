@@ -1,5 +1,4 @@
--- The numbers to meet (document 01, "Numbers to meet", all that are marked (T), and 02, card 1: sample −1 at K 32,768 gives −1): one table of what the
--- definitions give and what is asked, and one lemma over it.
+-- The numbers to meet (§ Numbers to meet, all that are marked (T)): one table of what the definitions give and what is asked, and one lemma over it.
 use mathlib.Core.Path.{_≡_, refl}
 use mathlib.Core.Bool.{Bool, true, false, cond}
 use mathlib.Core.List.{List, [], _∷_, _++_, map}

@@ -1,4 +1,4 @@
--- A fault fed from one end: current flows into the bank at that end alone, and none that is measured leaves it (document 01, "Amplitudes").
+-- A fault fed from one end: current flows into the bank at that end alone, and none that is measured leaves it (§ Amplitudes 6 and 7).
 use mathlib.Core.Path.{_≡_}
 use mathlib.Core.Logic.{_≢_}
 use mathlib.Core.List.{List}
@@ -15,7 +15,7 @@ pub record FedFrom (ends : ℕ) (win : List ℤ) (l : System) (z : ℕ) : Type 0
   pub in-use : z < ends
   pub others-zero : (k e : ℕ) → k < 12 → e < ends → e ≢ z → at win k e l ≡ pos 0
 
--- Then D is that end's amplitude, and so is R, also where it is the end that is subtracted.
+-- Then D is that end's amplitude, and so is R, twice the restraint, also where it is the end that is subtracted.
 unfoldable pub OneEndAmplitude : Type 0
 OneEndAmplitude =
     (v : Setting) (win : List ℤ) (l : System) (z : ℕ) → FedFrom (v .ends) win l z →

@@ -1,5 +1,5 @@
--- The case of card 4 (document 02), worked out: a fault on phase A beside a phase B with little or no D. P is 200, the percents of the harmonics are 15
--- and 30; of the flags, 1 is second-harmonic blocking, 2 fifth, 4 common.
+-- The case of card 4 (§ Characteristic and trip 3), worked out: a fault on phase A beside a phase B with little or no D. P is 200, the percents of the
+-- harmonics are 15 and 30; of the flags, 1 is second-harmonic blocking, 2 fifth, 4 common.
 use mathlib.Core.Path.{_≡_, refl}
 use mathlib.Core.Bool.{Bool, cond}
 use mathlib.Core.List.{List, [], _∷_, map}
@@ -17,7 +17,7 @@ use Rattle.characteristic.specs.Characteristic.{starts, hasHarmonics, holdsBack
 use Rattle.measuring.specs.Numbers.{window}
 use Rattle.measuring.specs.Measuring.{differential, second, twiceRestraint, start, harmonics, holding, blocked}
 
--- the fault, on system 1: twice the constants t of 01
+-- the fault, on system 1: twice the constants t (§ Amplitudes 2)
 fault : ℕ → ℤ
 fault k = pos 2 *ℤ t k
 

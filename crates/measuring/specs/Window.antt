@@ -1,4 +1,4 @@
--- A window (document 01, "Amplitudes" and "Characteristic and trip"): twelve places of twelve matched numbers each, by end and system, oldest set
+-- A window (§ Amplitudes 1, § The relay record 1): twelve places of twelve matched numbers each, by end and system, oldest set
 -- first. As the record holds it, a list of 144 numbers.
 use mathlib.Core.List.{List}
 use Prim.Native.Nat.{ℕ, _+_, _*_}

@@ -1,4 +1,4 @@
-// Measuring a full window: differential, restraint, harmonics, start and blocking of the three systems.
+// Measuring a full window: differential, twice the restraint, harmonics, start and blocking of the three systems.
 
 ghost use mathlib.Core.Path.{_≡_};
 ghost use mathlib.Core.Bool.{_&&_, _||_};
@@ -6,10 +6,10 @@ ghost use Prim.Native.Nat.{_*_, _≤_};
 ghost use lib.IntN.{_-ℤ_};
 ghost use Rattle.matching.specs.Sets.{system};
 ghost use Rattle.characteristic.specs.Characteristic.{starts as startsOf, commonOn};
-ghost use Rattle.measuring.specs.Folded.{combined as combinedOf, Folds, partAt, overEnds, FirstOf, restraintBy, currentsWith, currentsBy};
+ghost use Rattle.measuring.specs.Folded.{combined as combinedOf, Folds, partAt, overEnds, FirstOf, twiceRestraintBy, currentsWith, currentsBy};
 ghost use Rattle.measuring.specs.Folded.{CombinedInput, PlaceInput, OverInput};
 ghost use Rattle.measuring.specs.Measuring.{start, readingsOf, ReadingsBy};
-ghost use Rattle.measuring.specs.Ends.{partOf, PartInput, AmplitudesFrom, StepsInput, taken as takenOf, RestraintInput, MeasuresEnds};
+ghost use Rattle.measuring.specs.Ends.{partOf, PartInput, AmplitudesFrom, StepsInput, taken as takenOf, TwiceRestraintInput, MeasuresEnds};
 ghost use Rattle.measuring.specs.Holding.{CommonBlocking};
 ghost use Rattle.measuring.specs.OneEnd.{OneEndAmplitude};
 ghost use Rattle.measuring.specs.WindowInput.{WindowInput, Measurable, SystemInput};
@@ -17,7 +17,7 @@ use characteristic::Currents;
 use characteristic::Held;
 use setting::Setting;
 
-// What is measured of a system: its currents, start, blocked.
+// What is measured of a system: its currents, in thousandths of reference current, with r twice the restraint; start, blocked.
 pub struct Reading {
     pub d: u32,
     pub r: u32,
@@ -158,8 +158,8 @@ fn taken(ends: u8, asked: bool) -> usize
 
 // R, twice the restraint, where a has the amplitudes that it is made of.
 fn twice_restraint(ends: u8, f: &[i32], y: usize, a: &[u32]) -> u32
-    requires { ⌜ RestraintInput (now f) ends y (now a) ⌝ }
-    ensures { λ r. ⌜ r ≡ restraintBy ends (now (f .entry)) y ⌝ }
+    requires { ⌜ TwiceRestraintInput (now f) ends y (now a) ⌝ }
+    ensures { λ r. ⌜ r ≡ twiceRestraintBy ends (now (f .entry)) y ⌝ }
 {
     if ends == 2 {
         return amplitude::amplitude(
@@ -193,7 +193,7 @@ fn currents_with(ends: u8, f: &[i32], y: usize, r: u32) -> Currents
 
 // D, R, H2 and H5 of system y, where a has the amplitudes that R is made of.
 fn system_currents(ends: u8, f: &[i32], y: usize, a: &[u32]) -> Currents
-    requires { ⌜ RestraintInput (now f) ends y (now a) ⌝ }
+    requires { ⌜ TwiceRestraintInput (now f) ends y (now a) ⌝ }
     ensures { λ r. ⌜ r ≡ currentsBy ends (now (f .entry)) y ⌝ }
 {
     currents_with(ends, f, y, twice_restraint(ends, f, y, a))
@@ -289,7 +289,7 @@ pub fn measure(v: Setting, win: &[i32]) -> Readings
     m.readings
 }
 
-// Which systems hold back others (02, card 4): no code, the statement and its proof.
+// Which systems hold back others (§ Characteristic and trip 3): no code, the statement and its proof.
 pub fn common_blocking()
     ensures { λ _. ⌜ CommonBlocking ⌝ }
 {}

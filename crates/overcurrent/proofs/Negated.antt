@@ -1,4 +1,4 @@
--- A window negated (02, card 1): A of an end is the same.
+-- A window negated (card 1): A of an end is the same.
 use mathlib.Core.Path.{_≡_}
 use mathlib.Core.List.{List, map}
 use Prim.Native.Nat.{ℕ}

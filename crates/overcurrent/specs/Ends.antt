@@ -1,4 +1,4 @@
--- The inverse-time elements of the four ends (document 02, card 6).
+-- The inverse-time elements of the four ends (§ Backup overcurrent).
 use mathlib.Core.Bool.{Bool, not, _&&_, cond}
 use mathlib.Core.List.{List, [], _∷_}
 use Prim.Native.Nat.{ℕ, _+_, _*_, _≤_, max}
@@ -23,6 +23,7 @@ abbrev pub timed : (ends curve z : ℕ) → Bool
 timed E curve z = not (eqb curve 0) && ltb z E
 
 -- what a measured set makes of them, A being the largest amplitude of each end: at curve 0 none moves, and at other ends only a reset changes sum or trip
+-- (§ Backup overcurrent 6)
 unfoldable pub backupAfter : (ends curve X : ℕ) (A : ℕ → ℕ) → Backup → Backup
 backupAfter E curve X A b =
     perEnd (λ z. cond (timed E curve z) (timerAfter (curveOf curve) (multiple X (A z)) (timerOf b z)) (timerOf b z))

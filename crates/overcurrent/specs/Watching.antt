@@ -1,4 +1,4 @@
--- The inverse-time elements at a set with the window full (document 02, card 6).
+-- The inverse-time elements at a set with the window full (§ Backup overcurrent).
 use mathlib.Core.Path.{_≡_}
 use mathlib.Core.Bool.{false}
 use mathlib.Core.List.{List}
@@ -17,7 +17,7 @@ use Rattle.overcurrent.specs.declared.Backup.{Backup}
 use Rattle.overcurrent.specs.declared.Watched.{Watched}
 use Rattle.overcurrent.specs.Ends.{backupAfter, sumsWithin}
 
--- A is the largest h = 1 amplitude of the end's three systems
+-- A is the largest h = 1 amplitude of the end's three systems, in thousandths of reference current (§ Backup overcurrent 2)
 unfoldable pub largest : List ℤ → (z : ℕ) → ℕ
 largest win z = max (amplitude 1 (series win z sysA)) (max (amplitude 1 (series win z sysB)) (amplitude 1 (series win z sysC)))
 

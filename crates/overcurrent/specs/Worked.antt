@@ -1,4 +1,4 @@
--- A of an end, worked out by hand (document 02, card 6).
+-- A of an end, worked out by hand (§ Backup overcurrent 2).
 use mathlib.Core.Path.{_≡_, refl}
 use mathlib.Core.Bool.{cond}
 use mathlib.Core.List.{List, [], _∷_}
@@ -13,7 +13,7 @@ use Rattle.amplitude.specs.Amplitude.{t, weightedSum, cycle, amplitude}
 use Rattle.measuring.specs.Numbers.{window}
 use Rattle.overcurrent.specs.Watching.{largest}
 
--- six x, then six −x: of 100 the amplitude is 128 (01, "Numbers to meet"); of 200 c is 67 and s 249, and it is 257
+-- six x, then six −x: of 100 the amplitude is 128 (§ Numbers to meet); of 200 c is 67 and s 249, and it is 257
 square : ℕ → ℕ → ℤ
 square x k = cond (ltb k 6) (pos x) (negℤ (pos x))
 

@@ -1,4 +1,4 @@
--- Event flags and the interrupt mask, which the relay record holds (document 02, card 2).
+-- Event flags and the interrupt mask, which the relay record holds (§ The register page).
 use mathlib.Core.Bool.{Bool, true, false, cond}
 use mathlib.Core.List.{List, [], _∷_}
 use Prim.Native.Nat.{ℕ, _%_}
@@ -15,7 +15,7 @@ quiet = record { flags = 0; mask = 0 }
 abbrev pub within : Events → List Bool
 within e = leb (e .flags) 7 ∷ leb (e .mask) 7 ∷ []
 
--- A start or trip is new when that bit of its mask was 0 after the previous call.
+-- A start or trip is new when that bit of its mask was 0 after the previous call (§ The register page 2).
 abbrev pub new : (before now : Bits) → Bool
 new before now = some (without now before)
 

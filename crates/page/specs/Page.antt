@@ -1,4 +1,4 @@
--- The register page of 64 bytes (document 02, card 2): by the latches, what is shown of the last accepted set, and the events.
+-- The register page of 64 bytes (§ The register page): by the latches, what is shown of the last accepted set, and the events.
 use mathlib.Core.Bool.{Bool, false, _||_, cond}
 use mathlib.Core.List.{List, [], _∷_, _++_, map, flatten}
 use Prim.Native.Nat.{ℕ}
@@ -24,7 +24,7 @@ startsOf m = record { b0 = m .a .start; b1 = m .b .start; b2 = m .c .start }
 abbrev pub blocksOf : Readings → Bits
 blocksOf m = record { b0 = m .a .blocked; b1 = m .b .blocked; b2 = m .c .blocked }
 
--- D1, R1, D2, R2, D3, R3
+-- D1, R1, D2, R2, D3, R3, with R twice the restraint
 abbrev pub currents : Readings → List ℕ
 currents m = m .a .d ∷ m .a .r ∷ m .b .d ∷ m .b .r ∷ m .c .d ∷ m .c .r ∷ []
 
@@ -47,7 +47,7 @@ zero = record { d = 0; r = 0; h2 = 0; h5 = 0; start = false; blocked = false }
 abbrev pub nothing : Readings
 nothing = record { a = zero; b = zero; c = zero }
 
--- masks and currents of the last accepted set, zero unless the window is full
+-- masks and currents of the last accepted set, zero unless the window is full (§ The register page 1)
 abbrev pub shown : Setting → Window → Readings
 shown v w = cond (full w) (readingsOf v (w .values)) nothing
 

@@ -1,4 +1,4 @@
--- A page, and what is made of the events, worked out by hand from document 02's lines; and that every page has 64 bytes.
+-- A page, and what is made of the events, worked out by hand (§ The register page); and that every page has 64 bytes.
 use mathlib.Core.Path.{_≡_, refl}
 use mathlib.Core.Bool.{Bool, true, false}
 use mathlib.Core.List.{List, [], _∷_, _++_, map, flatten}

@@ -1,4 +1,4 @@
--- The refusals (document 01, "What the relay declines"; 15 and 16 by document 02, card 2, 17 by card 7).
+-- The refusals (§ What the relay declines).
 use mathlib.Core.Bool.{Bool, not, cond}
 use mathlib.Core.List.{List, [], _∷_}
 use mathlib.Core.Option.{Option, none, some}

@@ -1,4 +1,4 @@
--- Starting, sample and reset (document 01, "Characteristic and trip" and "What the relay declines"; event flags by 02, card 2, overcurrent by card 6).
+-- Starting, sample and reset (§ What the relay declines 5, 6 and 7; § The relay record; § Characteristic and trip).
 use mathlib.Core.Path.{_≡_}
 use mathlib.Core.Bool.{Bool, not, _&&_, _||_, cond}
 use mathlib.Core.List.{List, [], _∷_}
@@ -55,7 +55,7 @@ unusedZero v xs = each (λ x. eqZ x (pos 0)) (drop (3 * v .ends) xs)
 unfoldable pub setRows : Setting → List ℤ → List Row
 setRows v xs = (14 when not (twelve xs)) ∷ (10 when not (inReach xs)) ∷ (11 when not (unusedZero v xs)) ∷ []
 
--- A set is accepted when it has 12 numbers, none beyond ±32,000, and zero at every unused end ("A healthy bank").
+-- A set is accepted when it has 12 numbers, none beyond ±32,000, and zero at every unused end (§ The relay record 2).
 abbrev pub accepted : Setting → List ℤ → Bool
 accepted v xs = noneApplies (setRows v xs)
 
@@ -65,12 +65,12 @@ sampleRows r xs = (12 when not (admissible r)) ∷ setRows (r .setting) xs
 
 -- ---- the sample call
 
--- An accepted set answers Filling with the number held, or Measured.
+-- An accepted set answers Filling with the number held, or Measured (§ The relay record 4).
 pub data Reply : Type 0 where
   filling : ℕ → Reply
   measured : (a b c : Measure) (trips : Trips) → Reply
 
--- the window with the set's matched numbers filed
+-- the window with the set's matched numbers filed (§ The relay record 3)
 abbrev pub windowAfter : Relay → List ℤ → Window
 windowAfter r xs = windowWith (r .window) (numbers (r .setting) xs)
 
@@ -84,11 +84,11 @@ elementNow r w l = elementAfter (r .setting .confirm) (counting (r .setting) w l
 abbrev pub tripNow : Relay → Window → Trip
 tripNow r w = perSystem (elementNow r w)
 
--- D, R, H2, H5, start, blocked and latched of a system
+-- D, R (twice the restraint), H2, H5, start, blocked and latched of a system
 abbrev pub measureNow : Relay → Window → System → Measure
 measureNow r w l = record { reading = readingOf (r .setting) (w .values) l; latched = elementNow r w l .latch }
 
--- sums and trips of the overcurrent elements: while the window fills they stay (02, card 6)
+-- sums and trips of the overcurrent elements: while the window fills they stay (§ Backup overcurrent 6)
 unfoldable pub backupNow : Relay → Window → Backup
 backupNow r w = cond (full w) (backupBy (r .setting) (w .values) (r .backup)) (r .backup)
 
@@ -97,7 +97,7 @@ unfoldable pub replyNow : Relay → Window → Reply
 replyNow r w =
     cond (full w) (measured (measureNow r w sysA) (measureNow r w sysB) (measureNow r w sysC) (tripsOf (backupNow r w))) (filling (w .fill))
 
--- ---- the record after it, with the flags that it raises (02, card 2)
+-- ---- the record after it, with the flags that it raises (§ The register page 2)
 
 -- the systems that start by a window of the record's setting
 abbrev pub startsBy : Relay → Window → Bits
@@ -113,7 +113,7 @@ eventsNow r w = raised (flagsNow r w) (r .events)
 unfoldable pub relayNow : Relay → Window → Relay
 relayNow r w = record { setting = r .setting; window = w; trip = tripNow r w; events = eventsNow r w; backup = backupNow r w }
 
--- a refused set raises flag bit 2, and leaves all else of the record as before
+-- a refused set raises flag bit 2, and leaves all else of the record as before (§ The register page 3)
 unfoldable pub refusedRelay : Relay → Relay
 refusedRelay r = withEvents r (raised refusedSet (r .events))
 
@@ -147,7 +147,8 @@ pub record Gives (o : Outcome Reply) (after : Relay) (s : Sampled) : Type 0 wher
 abbrev pub Samples : Relay → List ℤ → Sampled → Type 0
 Samples r xs s = Gives (sampleReply r xs) (sampleRelay r xs) s
 
--- ---- reset: 12; it clears counters and latches, not windows; flags and interrupt mask stay; it clears overcurrent sums and their trips (02, card 6)
+-- ---- reset: 12; it clears counters and latches, not windows; flags and interrupt mask stay; it clears overcurrent sums and their trips
+-- (§ Characteristic and trip 7)
 
 unfoldable pub resetRows : Relay → List Row
 resetRows r = (12 when not (admissible r)) ∷ []
@@ -166,7 +167,7 @@ pub record Resets (r : Relay) (s : Returned) : Type 0 where
   pub reply : R.outcomeOf (s .verdict) ≡ resetReply r
   pub relay : s .relay ≡ resetRelay r
 
--- ---- starting a fresh relay from setting values: 4, 5, 17, 6, 7 (17 by 02, card 7), and then a blank record, on which every call declines with 12
+-- ---- starting a fresh relay from setting values: 4, 5, 17, 6, 7 (§ What the relay declines 5), and then a blank record, on which every call declines with 12
 
 abbrev pub startReply : Setting → Outcome (Unit {0})
 startReply v = firstRefusal (startRows v)

@@ -1,4 +1,4 @@
--- Lists of calls (00, demands 2 and 3; 02, card 2: each call, declined or not, passes the record it returns to the next).
+-- Lists of calls (§ The three demands 3: each call, declined or not, passes the record that it returns to the next).
 use mathlib.Core.List.{List, [], _∷_, foldl}
 use Prim.Native.Nat.{ℕ}
 use lib.IntN.{ℤ}

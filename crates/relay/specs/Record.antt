@@ -1,4 +1,4 @@
--- The relay record, and which records are admissible (document 01, "Characteristic and trip" and refusal 12; 02, cards 2, 6 and 7).
+-- The relay record, and which records are admissible (§ The relay record 1).
 use mathlib.Core.Bool.{Bool}
 use mathlib.Core.List.{List, [], _∷_}
 use lib.Dec.{leb}
@@ -30,7 +30,7 @@ fresh v =
 
 abbrev pub admissions : Relay → List Bool
 admissions r =
-    -- its setting breaks 4 to 7, or 17 (02, card 7)
+    -- its setting breaks 4 to 7, or 17
     startable (r .setting)
     -- fill above 12
     ∷ leb (r .window .fill) 12

@@ -32,7 +32,7 @@ steepest =
       overcurrent = off;
     }
 
--- five times the constants t of 01 on phase A of end 1, and no other current
+-- five times the constants t (§ Amplitudes 2) on phase A of end 1, and no other current
 abbrev pub surge : ℕ → Call
 surge k = sample (replicate 3 (pos 0) ++ ((pos 5 *ℤ t k) ∷ replicate 8 (pos 0)))
 

@@ -1,4 +1,4 @@
--- A fault fed from one end, the other side of demand 3: whatever setting a planner chooses, the relay is not blind to it (01, "Characteristic and trip").
+-- A fault fed from one end, the other side of demand 3: whatever setting a planner chooses, the relay is not blind to it (§ Characteristic and trip 1).
 use mathlib.Core.Path.{_≡_}
 use mathlib.Core.Logic.{_≢_, _↔_}
 use mathlib.Core.Bool.{true}
@@ -16,8 +16,8 @@ use Rattle.measuring.specs.Measuring.{differential, twiceRestraint, start}
 use Rattle.measuring.specs.OneEnd.{FedFrom}
 use Rattle.stability.specs.Lists.{windowOf}
 
--- For every setting that a relay can be started on, every window, every system and every end in use: if the system is fed from that end, then R = D, and
--- it starts exactly when D > P. The slopes, which hold it back at through-current, take nothing from it.
+-- For every setting that a relay can be started on, every window, every system and every end in use: if the system is fed from that end, then R, twice
+-- the restraint, is D, and it starts exactly when D > P. The slopes, which hold it back at through-current, take nothing from it.
 unfoldable pub OneEndStarts : Type 0
 OneEndStarts =
     (v : Setting) → T (startable v) → (win : List ℤ) (l : System) (z : ℕ) → FedFrom (v .ends) win l z →

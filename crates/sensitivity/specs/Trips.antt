@@ -1,4 +1,4 @@
--- Which faults trip, over lists of calls from a fresh relay (01, "Characteristic and trip"): those that the last M calls measure.
+-- Which faults trip, over lists of calls from a fresh relay (§ Characteristic and trip 4 to 6): those that the last M calls measure.
 use mathlib.Core.Path.{_≡_}
 use mathlib.Core.Bool.{Bool, true, false}
 use mathlib.Core.List.{List, _++_}

@@ -1,5 +1,5 @@
--- The verdict on setting values (document 01, "What the relay declines"): of the setting writer, 4 to 7, and of starting a fresh relay from setting
--- values, 4, 5, 17, 6, 7 (02, card 7).
+-- The verdict on setting values (§ What the relay declines 2 and 5): of the setting writer, 4 to 7, and of starting a fresh relay from setting values, 4,
+-- 5, 17, 6, 7.
 use mathlib.Core.Path.{_≡_}
 use mathlib.Core.List.{List, _++_}
 use mathlib.Core.Option.{Option, none, some}

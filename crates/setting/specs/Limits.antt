@@ -24,7 +24,7 @@ pub record Limits (v : Setting) : Type 0 where
   pub rated : (z : ℕ) → z < v .ends → Rated (endOf v z) (v .power)
   pub group : (z : ℕ) → z < v .ends → endOf v z .group < 12
 
--- inverse-time elements that are on: a curve of the two, and a pick-up of 200 or more (02, card 6)
+-- inverse-time elements that are on: a curve of the two, and a pick-up of 200 or more (§ The setting block)
 pub record TimersOn (o : Overcurrent) : Type 0 where
   pub some : 1 ≤ o .curve
   pub two : o .curve ≤ 2

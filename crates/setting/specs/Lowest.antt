@@ -1,5 +1,5 @@
--- The offset with refusal 5 is the lowest of a field outside its rule (document 02, card 3), whatever the order in which the fields are listed: what is
--- said of it here speaks of the fields that are there, and of no order.
+-- The offset with refusal 5 is the lowest of a field outside its rule (§ What the relay declines, card 3), whatever the order in which the fields are
+-- listed: what is said of it here speaks of the fields that are there, and of no order.
 use mathlib.Core.Path.{_≡_}
 use mathlib.Core.Bool.{true, false}
 use mathlib.Core.List.{List, List·Memᴰ}

@@ -1,4 +1,4 @@
--- Two notions (document 02, card 7): values that a block may hold, and values that a relay can be started on.
+-- Two notions (§ The setting block 6): values that a block may hold, and values that a relay can be started on.
 use mathlib.Core.Path.{_≡_}
 use mathlib.Core.List.{[], _∷_}
 use mathlib.Core.Logic.{_↔_}

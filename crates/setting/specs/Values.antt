@@ -1,4 +1,4 @@
--- Setting values and their rules (document 01, "The setting block" and the limits of "Matching"; document 02, cards 3, 6 and 7).
+-- Setting values and their rules (§ The setting block; the limits of § Matching 3).
 use mathlib.Core.Bool.{Bool, true, not, _&&_, cond}
 use mathlib.Core.List.{List, [], _∷_, _++_}
 use mathlib.Core.Option.{Option, none, some}
@@ -50,7 +50,7 @@ right f = cond (inUse f) (between (leastOf f) (mostOf f) (valueOf f)) (eqb (valu
 abbrev pub headFields : Setting → List Field
 headFields v = (5, true, 0, 7, v .flags) ∷ (6, true, 1, 24, v .confirm) ∷ (8, true, 1, 50000, v .power) ∷ []
 
--- 12 + 12z: V, 1 to 15,000; I, 1 to 50,000; group, 0 to 11, and 0 at end 0; filter, 0 or 1; ends from E on are all zero, each number one field (02, card 3)
+-- 12 + 12z: V, 1 to 15,000; I, 1 to 50,000; group, 0 to 11, and 0 at end 0; filter, 0 or 1; ends from E on are all zero (§ The setting block 1)
 abbrev pub endFields : Setting → ℕ → List Field
 endFields v z =
     (12 + 12 * z, ltb z (v .ends), 1, 15000, endOf v z .voltage)
@@ -71,7 +71,7 @@ tailFields t =
     ∷ (72, true, 10, 80, t .fifth)
     ∷ []
 
--- 74: X, 200 to 4,000, at curve 0 zero; 76: the curve, 0 to 2 (02, card 6)
+-- 74: X, 200 to 4,000, at curve 0 zero; 76: the curve, 0 to 2
 abbrev pub curveFields : Overcurrent → List Field
 curveFields o = (74, not (eqb (o .curve) 0), 200, 4000, o .pickup) ∷ (76, true, 0, 2, o .curve) ∷ []
 
@@ -83,7 +83,7 @@ fields v =
 abbrev pub allRight : List Field → Bool
 allRight fs = each right fs
 
--- ---- which field refusal 5 names (document 02, card 3)
+-- ---- which field refusal 5 names (§ The setting block 4, § What the relay declines)
 
 -- the lower of two offsets, of those that there are
 abbrev pub lower : Option ℕ → Option ℕ → Option ℕ
@@ -102,7 +102,7 @@ lowest (f ∷ fs) = lower (wrongAt f) (lowest fs)
 
 -- ---- the factors, and their limits
 
--- The exact factor of an end is k = 1351·V·I / (780·1000·S): its two terms.
+-- The exact factor of an end is k = 1351·V·I / (780·1000·S): its two terms (§ Matching 2).
 abbrev pub factorTop : End → ℕ
 factorTop e = 1351 * (e .voltage * e .current)
 
@@ -154,7 +154,7 @@ storeRows v = valueRows (fields v) v
 abbrev pub storable : Setting → Bool
 storable v = noneApplies (storeRows v)
 
--- ---- what a relay can be started on (02, card 7)
+-- ---- what a relay can be started on (§ The setting block 6)
 
 -- m2 less than m1
 abbrev pub falling : Thresholds → Bool

@@ -1,22 +1,22 @@
--- Settings that the documents work with, each where more than one crate uses it.
+-- Settings to work with, each of them used by more than one crate.
 use Prim.Native.Nat.{ℕ}
 use Rattle.setting.specs.declared.End.{End}
 use Rattle.setting.specs.declared.Overcurrent.{Overcurrent}
 use Rattle.setting.specs.declared.Setting.{Setting}
 
--- an end of group 0 with no filter, by V and I (01, "Numbers to meet")
+-- an end of group 0 with no filter, by V and I (§ Numbers to meet)
 abbrev pub rated : (voltage current : ℕ) → End
 rated v i = record { voltage = v; current = i; group = 0; filter = 0 }
 
--- an end that is not in use (01, "The setting block": ends from E on are all zero)
+-- an end that is not in use (§ The setting block 1)
 abbrev pub unused : End
 unused = rated 0 0
 
--- no inverse-time elements (02, card 6: curve 0)
+-- no inverse-time elements (§ Backup overcurrent 6: curve 0)
 abbrev pub off : Overcurrent
 off = record { pickup = 0; curve = 0 }
 
--- values that are all zero, of which no relay can be started: a start that is refused leaves them (01, "What the relay declines": no relay)
+-- values that are all zero, of which no relay can be started: a start that is refused leaves them (§ What the relay declines 5)
 abbrev pub blank : Setting
 blank =
     record {
@@ -32,7 +32,7 @@ blank =
       overcurrent = off;
     }
 
--- two ends, by S, with no blocking, M 1, P 200, H 8,000, m1 30, m2 70, Q 4,000 (01, "Numbers to meet" and its bench run); the percents of the
+-- two ends, by S, with no blocking, M 1, P 200, H 8,000, m1 30, m2 70, Q 4,000 (§ Numbers to meet and its bench run); the percents of the
 -- harmonics, which no flag turns on, are 15 and 30
 abbrev pub twoEnds : (power : ℕ) → End → End → Setting
 twoEnds s a b =
@@ -49,7 +49,7 @@ twoEnds s a b =
       overcurrent = off;
     }
 
--- with K 65,536 at both ends: the setting of 01's windows, starts and bench run
+-- with K 65,536 at both ends: the setting of the windows, starts and bench run of § Numbers to meet
 unfoldable pub plain : Setting
 plain = twoEnds 1351 (rated 780 1000) (rated 780 1000)
 
@@ -69,7 +69,7 @@ flagged f =
       overcurrent = plain .overcurrent;
     }
 
--- a setting with other slopes, m1 and m2 (02, card 7)
+-- a setting with other slopes, m1 and m2
 abbrev pub sloped : (m1 m2 : ℕ) → Setting → Setting
 sloped m1 m2 v =
     let t = v .thresholds in
@@ -91,7 +91,7 @@ sloped m1 m2 v =
 unfoldable pub fallen : Setting
 fallen = sloped 70 30 plain
 
--- the factory setting (02, card 14): S 40 MVA; 110 kV and 300 A, group 0, filter on; 20 kV and 1,200 A, group 5, filter off
+-- a transformer of 40 MVA, 110/20 kV, group 5: S 40 MVA; 110 kV and 300 A, group 0, filter on; 20 kV and 1,200 A, group 5, filter off
 unfoldable pub factory : Setting
 factory =
     record {

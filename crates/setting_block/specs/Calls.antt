@@ -1,4 +1,4 @@
--- The setting reader and writer (document 01, "What the relay declines": setting reader 1 to 7, setting writer 4 to 7, 13).
+-- The setting reader and writer (§ What the relay declines 1 and 2).
 use mathlib.Core.Path.{_≡_}
 use mathlib.Core.Bool.{not}
 use mathlib.Core.List.{List, [], _∷_, _++_}

@@ -1,4 +1,4 @@
--- The setting block's 512 bytes (document 01, "The setting block"; document 02, card 6).
+-- The setting block's 512 bytes (§ The setting block).
 use mathlib.Core.Path.{_≡_}
 use mathlib.Core.Bool.{Bool, false, _&&_}
 use mathlib.Core.List.{List, [], _∷_, _++_, map}
@@ -56,7 +56,7 @@ fewSpares = 7 ∷ (endSpares 0 ++ (endSpares 1 ++ (endSpares 2 ++ endSpares 3)))
 abbrev pub spareOffsets : List ℕ
 spareOffsets = fewSpares ++ upTo 433 (λ k. 77 + k)
 
--- each zero byte is a field by itself (02, card 3), which is never in use
+-- each zero byte is a field by itself (§ The setting block 4), which is never in use
 abbrev pub spare : List ℕ → ℕ → Field
 spare s at = (at, false, 0, 0, getD s at 0)
 

@@ -1,4 +1,4 @@
--- Reading and writing undo each other (00, demand 2: either way round returns the same bytes and the same values).
+-- Reading and writing undo each other (§ The three demands 2).
 use mathlib.Core.Path.{_≡_}
 use mathlib.Core.List.{List, _++_}
 use Prim.Native.Nat.{ℕ, _≤_}

@@ -1,4 +1,4 @@
--- Blocks with faults before byte 77, and what refusals 4 and 5 tell of each (document 02, cards 3 and 6), worked out by hand.
+-- Blocks with faults before byte 77, and what refusals 4 and 5 tell of each (§ The setting block 4 and 5), worked out by hand.
 use mathlib.Core.Path.{_≡_, refl}
 use mathlib.Core.List.{List, [], _∷_, _++_, map}
 use Prim.Native.Nat.{ℕ}
@@ -14,7 +14,7 @@ abbrev pub changed : List ℕ → List (ℕ × ℕ) → List ℕ
 changed s [] = s
 changed s (x ∷ xs) = changed (set s (x .0) (x .1)) xs
 
--- what 4 and 5, the first two rows, tell of the factory setting, of two ends, with bytes of its block before 77 changed: 0 where neither applies
+-- what 4 and 5, the first two rows, tell of the setting `factory`, of two ends, with bytes of its block before 77 changed: 0 where neither applies
 abbrev pub told : List (ℕ × ℕ) → Told
 told xs =
     let s = changed (header factory) xs in

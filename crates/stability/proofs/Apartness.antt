@@ -1,5 +1,5 @@
--- The register page stands apart (02, card 2). A record with other events answers a sample call and a reset as the record does, and what is left differs
--- in the events again; a read, and a write that does not reset, changes the events at most.
+-- The register page stands apart (§ The register page 5). A record with other events answers a sample call and a reset as the record does, and what is
+-- left differs in the events again; a read, and a write that does not reset, changes the events at most.
 use mathlib.Core.Path.{_≡_, refl, sym, ap, _∙_, subst}
 use mathlib.Core.Bool.{Bool, true, false, cond, true≢false}
 use mathlib.Core.List.{List, [], _∷_}

@@ -1,4 +1,4 @@
--- Turning (02, card 1). A record is turned where its matched numbers are negated. A turned record files the turned set as the record files the set: the
+-- Turning (card 1). A record is turned where its matched numbers are negated. A turned record files the turned set as the record files the set: the
 -- matched numbers of the set are negated (Negated.antt of matching), and what is measured of the window is the same (that of measuring). So a call keeps
 -- the record turned, and answers alike; a fresh record is turned to itself.
 use mathlib.Core.Path.{_≡_, refl, ap, sym, subst, _∙_}

@@ -1,4 +1,4 @@
--- Reads and writes among other calls (02, card 2: no list of reads and writes without that reset write alters any measured answer).
+-- Reads and writes among other calls (§ The register page 5).
 use mathlib.Core.Path.{_≡_}
 use mathlib.Core.Bool.{Bool, true, false, cond}
 use mathlib.Core.List.{List, [], _∷_}

@@ -1,5 +1,5 @@
--- A relay that trips, beside demand 3: the setting and the sets of document 01's bench run (under "Numbers to meet"), after which system 1 alone is
--- latched; so they are not those of a healthy bank. And the case of 02's card 4, a fault beside an unloaded phase, which trips alike.
+-- A relay that trips, beside demand 3: the setting and the sets of the bench run (§ Numbers to meet), after which system 1 alone is latched; so they are
+-- not those of a healthy bank. And the case of card 4, a fault beside an unloaded phase, which trips alike.
 use mathlib.Core.Path.{_≡_, refl}
 use mathlib.Core.Bool.{Bool, true, false}
 use mathlib.Core.List.{List, [], _∷_, _++_}
@@ -34,7 +34,7 @@ use Rattle.stability.specs.Stability.{HealthyCall}
 pub fault : List Call
 fault = replicate 11 (sample (replicate 12 (pos 0))) ++ (sample (pos 3000 ∷ replicate 11 (pos 0)) ∷ [])
 
--- at end 0, twice the constants t of 01 on phase A, and D 0 and H2 1 on phase B
+-- at end 0, twice the constants t (§ Amplitudes 2) on phase A, and D 0 and H2 1 on phase B
 pub beside : List Call
 beside = upTo 12 (λ k. sample ((pos 2 *ℤ t k) ∷ ripple k ∷ replicate 10 (pos 0)))
 

@@ -1,4 +1,5 @@
--- Event flags and the interrupt mask over lists of calls from a fresh relay (02, card 2), told from the list of calls and not from the record.
+-- Event flags and the interrupt mask over lists of calls from a fresh relay (§ The register page 2 and 3), told from the list of calls and not from the
+-- record.
 use mathlib.Core.Path.{_≡_}
 use mathlib.Core.Bool.{Bool, false, cond}
 use mathlib.Core.List.{List, [], foldl}

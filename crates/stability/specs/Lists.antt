@@ -1,4 +1,4 @@
--- Demand 2 over lists of calls from a fresh relay (00, demand 2; 01, "An afternoon with a reviewer").
+-- Demand 2 over lists of calls from a fresh relay (§ The three demands 2).
 use mathlib.Core.Path.{_≡_}
 use mathlib.Core.Bool.{cond}
 use mathlib.Core.List.{List, [], _∷_, _++_, flatten, foldl}
@@ -54,7 +54,7 @@ Answered =
 unfoldable pub ResetAccepted : Type 0
 ResetAccepted = (v : Setting) → T (startable v) → (cs : List Call) → resetReply (run (fresh v) cs) ≡ gives tt
 
--- And the next read is declined by 15 alone, or gives the byte of the page whose masks and currents are those of that window (02, card 2).
+-- And the next read is declined by 15 alone, or gives the byte of the page whose masks and currents are those of that window (§ The register page 1).
 unfoldable pub ReadAnswered : Type 0
 ReadAnswered =
     (v : Setting) → T (startable v) → (cs : List Call) (offset : ℕ) →

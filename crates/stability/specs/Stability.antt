@@ -1,5 +1,5 @@
--- Demand 3 (00; 01, "A healthy bank"; reads and writes by 02, card 2, neutral current by card 8): one claim about the whole list of calls from a fresh
--- relay. It keeps to the differential element (02, card 6), and holds with X and the curve at any accepted value.
+-- Demand 3 (§ The three demands 3, § A healthy bank): one claim about the whole list of calls from a fresh relay. It keeps to the differential element,
+-- and holds with X and the curve at any accepted value.
 use mathlib.Core.Path.{_≡_}
 use mathlib.Core.Logic.{_≢_}
 use mathlib.Core.Bool.{false}
@@ -29,7 +29,7 @@ HealthyCall v reset = Unit {0}
 HealthyCall v (read offset) = Unit {0}
 HealthyCall v (write offset byte) = Unit {0}
 
--- no start, no latch, and D at most 45, 69 or 91 for E 2, 3 or 4
+-- no start, no latch, and D at most 45, 69 or 91 thousandths of reference current for E 2, 3 or 4
 pub record Calm (v : Setting) (m : Measure) : Type 0 where
   pub no-start : m .reading .start ≡ false
   pub no-latch : m .latched ≡ false
@@ -57,7 +57,7 @@ pub record Still (r : Relay) : Type 0 where
   pub no-start-flag : bitsOf (r .events .flags) .b0 ≡ false
   pub no-trip-flag : bitsOf (r .events .flags) .b1 ≡ false
 
--- Start a relay on any setting that it can be started on (02, card 7), and take every list of sample and reset calls, reads and writes, refused ones
+-- Start a relay on any setting that it can be started on, and take every list of sample and reset calls, reads and writes, refused ones
 -- included. Where each accepted set is that of a healthy bank, no record of the list, the first included, has a latch or a flag of a start or trip, and
 -- every answer is calm: nothing starts, nothing trips, and D keeps its limit.
 unfoldable pub Stability : Type 0

@@ -1,5 +1,5 @@
--- Healthy banks at heavy through-faults, beside demand 3: their sets are accepted and healthy, so the demand speaks of them. The first is one that 01 has;
--- the others carry neutral current, by 02's card 8.
+-- Healthy banks at heavy through-faults, beside demand 3: their sets are accepted and healthy, so the demand speaks of them. The first carries no
+-- neutral current; the others do.
 use mathlib.Core.List.{List, [], _∷_, _++_}
 use Prim.Native.Nat.{ℕ}
 use lib.Dec.{T}
@@ -24,7 +24,7 @@ through = (pos 18996 ∷ neg 1998 ∷ neg 1998 ∷ []) ++ (pos 16667 ∷ pos 0 �
 unfoldable pub ThroughFault : Type 0
 ThroughFault = T (startable factory) × T (accepted factory through) × Healthy factory through
 
--- ---- neutral current (02, card 8)
+-- ---- neutral current (§ A healthy bank 3 and 5)
 
 -- An autotransformer of 100 MVA (source 001, 3.4.2): three ends at one voltage, 220 kV, the third its neutral with a current transformer on each phase;
 -- groups 0, all filters off, no blocking.
@@ -47,7 +47,7 @@ autotransformer =
 unfoldable pub earthed : List ℤ
 earthed = (pos 6998 ∷ neg 875 ∷ neg 875 ∷ []) ++ (neg 6561 ∷ pos 219 ∷ pos 219 ∷ []) ++ (pos 4593 ∷ pos 328 ∷ pos 328 ∷ []) ++ replicate 3 (pos 0)
 
--- The two ends of the factory setting, groups 0 and 5, with both filters off.
+-- The two ends of `factory`, groups 0 and 5, with both filters off.
 unfoldable pub oddBank : Setting
 oddBank = twoEnds 400 (rated 1100 300) (record { voltage = 200; current = 1200; group = 5; filter = 0 })
 

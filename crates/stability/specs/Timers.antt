@@ -1,5 +1,5 @@
--- Sums and trips of the overcurrent elements over lists of calls from a fresh relay (02, card 6). Which sets were measured, and at what j, is told from the
--- sets filed, and not from the record.
+-- Sums and trips of the overcurrent elements over lists of calls from a fresh relay (§ Backup overcurrent). Which sets were measured, and at what j, is
+-- told from the sets filed, and not from the record.
 use mathlib.Core.Path.{_≡_}
 use mathlib.Core.Logic.{_↔_}
 use mathlib.Core.Bool.{Bool, true, _&&_, cond}

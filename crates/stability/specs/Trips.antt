@@ -1,5 +1,5 @@
--- Latches and counters over lists of calls from a fresh relay (01, "Characteristic and trip"). Which sets counted is told from the sets filed, and not
--- from the record.
+-- Latches and counters over lists of calls from a fresh relay (§ Characteristic and trip 5 and 6). Which sets counted is told from the sets filed, and
+-- not from the record.
 use mathlib.Core.Path.{_≡_}
 use mathlib.Core.Logic.{_↔_}
 use mathlib.Core.Bool.{Bool, true, cond}

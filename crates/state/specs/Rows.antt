@@ -1,4 +1,4 @@
--- Sets in a row (document 01, "Characteristic and trip"): the counter and the latch of a system by all the sets since the last reset. Of each set only
+-- Sets in a row (§ Characteristic and trip 5 and 6): the counter and the latch of a system by all the sets since the last reset. Of each set only
 -- whether the system counts at it is looked at; the newest stands first.
 use mathlib.Core.Path.{_≡_}
 use mathlib.Core.Logic.{_↔_}

@@ -1,4 +1,4 @@
--- The parts of the relay record (document 01, "Characteristic and trip" and refusal 12): counters and latches, and the window.
+-- The parts of the relay record (§ The relay record 1; § Characteristic and trip 5 and 6): counters and latches, and the window.
 use mathlib.Core.Path.{_≡_}
 use mathlib.Core.Bool.{Bool, false, _&&_, _||_, cond}
 use mathlib.Core.List.{List, [], _∷_, _++_}

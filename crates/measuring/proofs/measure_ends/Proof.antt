@@ -4,7 +4,7 @@ use borrow.Author.Needs.{needs}
 use mathlib.Core.Path.{_∙_}
 use Prim.Native.Nat.{ℕ, _<_}
 use native.Mathlib.Omega.{arith}
-use Rattle.measuring.specs.Ends.{RestraintInput}
+use Rattle.measuring.specs.Ends.{TwiceRestraintInput}
 use Rattle.measuring.proofs.PartLaws.{currents-are}
 use Rattle.measuring.proofs.EndLaws.{steps-ready, ready-by-all, asked-are}
 use Rattle.measuring.proofs.measure_ends.Statement.{statement}
@@ -29,7 +29,7 @@ module _ (c : tie.After-amplitudes) where
   abbrev parts : tie.After-folded
   parts = c .before .before .before
 
-  ready : (y : ℕ) → y < 3 → RestraintInput (parts .folded .result) (parts .before .args .v .ends) y (c .amplitudes .result)
+  ready : (y : ℕ) → y < 3 → TwiceRestraintInput (parts .folded .result) (parts .before .args .v .ends) y (c .amplitudes .result)
   ready y l =
       let like = parts .folded .ensures .like in
       ready-by-all _ (c .before .taken .ensures)

@@ -12,7 +12,7 @@ use mir.Syntax.{w32}
 use mir.Val.{toZ, ofZ}
 use Rattle.integer.specs.Within.{_within_}
 use Rattle.integer.proofs.Machine.{back-within}
-use Rattle.measuring.specs.Folded.{partAt, restraintBy}
+use Rattle.measuring.specs.Folded.{partAt, twiceRestraintBy}
 use Rattle.measuring.proofs.PartLaws.{between-within, handed, handed-is}
 use Rattle.measuring.proofs.EndLaws.{restraint-by-ends}
 use Rattle.measuring.proofs.twice_restraint.Statement.{statement}
@@ -50,7 +50,7 @@ amplitude-requires c κs =
     (of c 3 (c .between4 .ensures)) (small c 0) (small c 1) (small c 2) (small c 3)
 
 returns : tie.Need-returns
-unfolding restraintBy
+unfolding twiceRestraintBy
 returns c =
     let b = c .before in
     let ends : eqb (start b .args .ends) 2 ≡ true = eq-eqb _ _ (b .before .before .before .before .if1 .taken) in
