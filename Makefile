@@ -1,14 +1,17 @@
 # make run      proves and builds the bench program, and runs it on a fault beyond the bank and then one inside it.
-# make test     every test: the second program's own checks, the files that it makes against those stored, the C calls and the bench program against
-#               it, a wrong program across crates, and the Rattle gate, which proves each crate, tries each must-fail edit and runs each program
-#               (tests/gate).
+# make test     the gate: what the documents cite, the second program's own checks, the files that it makes against those stored, the C calls and the bench
+#               program against it, a wrong program across crates, and rt ci, which proves each crate, tries each must-fail edit and runs each program
+#               (tests/gate). The edits, mutants and fuzz below are not part of it.
 # make edits    the must-fail edits that the gate leaves out for time.
+# make wrong    lists all must-fail edits, a line each.
 # make mutants  wrong programs drawn by chance from the source, which must be refused as well: N for each crate, by SEED.
 # make fuzz     a million blocks through the C calls against the second program, built with the address and undefined-behaviour sanitizers.
 # make speed    the measuring call against the second program's, at 2, 3 and 4 ends: the ratio of times in one run, and instructions (valgrind); the
 #               turns of a root at light load and at faults; and the instructions of a set with the overcurrent elements off and on.
 CC = gcc
+CXX = g++
 CFLAGS = -std=c11 -O2 -Wall -Wextra -Werror
+CXXFLAGS = -std=c++11 -O2 -Wall -Wextra -Werror
 HOST = target/staticlib/libhost.a
 BENCH = target/bin/bench
 CALLS = target/bin/calls
@@ -17,7 +20,7 @@ SECOND = second/relay.c second/relay.h second/draw.c second/draw.h
 N = 4
 SEED = 1
 
-.PHONY: run test second stored proved host bench calls slope-limit edits mutants fuzz speed clean
+.PHONY: run test references second stored proved host planner bench calls slope-limit wrong edits mutants fuzz speed clean
 
 run: $(BENCH)
 	$(BENCH) < examples/faults.blocks
@@ -41,9 +44,28 @@ build/blocks build/fuzz build/edges: build/%: second/%.c $(SECOND) include/tdp.h
 	@mkdir -p build
 	$(CC) $(CFLAGS) -Iinclude -o $@ $< second/relay.c second/draw.c $(HOST) -lm
 
-build/host: examples/host.c include/tdp.h $(HOST)
+build/host build/planner: build/%: examples/%.c include/tdp.h $(HOST)
 	@mkdir -p build
 	$(CC) $(CFLAGS) -Iinclude -o $@ $< $(HOST)
+
+# The example in each way that a host may be built: as C++, static, position independent, and in a shared object, which a program without code of its
+# own runs.
+HOSTS = build/host build/host-cpp build/host-static build/host-pie build/host-shared
+
+build/host-cpp: examples/host.c include/tdp.h $(HOST)
+	$(CXX) $(CXXFLAGS) -Iinclude -o $@ -x c++ $< -x none $(HOST)
+
+build/host-static: examples/host.c include/tdp.h $(HOST)
+	$(CC) $(CFLAGS) -Iinclude -static -o $@ $< $(HOST)
+
+build/host-pie: examples/host.c include/tdp.h $(HOST)
+	$(CC) $(CFLAGS) -Iinclude -fPIE -pie -o $@ $< $(HOST)
+
+build/host.so: examples/host.c include/tdp.h $(HOST)
+	$(CC) $(CFLAGS) -Iinclude -fPIC -shared -Wl,-z,defs -Wl,-z,text -o $@ $< $(HOST)
+
+build/host-shared: build/host.so
+	$(CC) -o $@ $< -Wl,-rpath,'$$ORIGIN'
 
 $(HOST): $(SOURCES)
 	rt staticlib host
@@ -73,16 +95,25 @@ stored: build/numbers build/vectors build/bench
 	build/bench two input | cmp - examples/faults.blocks
 	build/bench two expect | cmp - examples/faults.out
 
-# What is run on the proved code.
-proved: host bench calls
+# Every file, section and name that README, docs/ and the comments of specs/ cite is there.
+references:
+	tests/references
 
-# The C calls: the example; 100,000 setting blocks and 10,000 measuring calls against the second program, the calls with negated samples too; and blocks
-# at the edge of what may be read.
-host: build/host build/blocks build/fuzz build/edges
-	build/host | cmp - examples/host.out
+# What is run on the proved code.
+proved: host planner bench calls
+
+# The C calls: the example, in each way of building it; what the library asks of a host; 100,000 setting blocks and 10,000 measuring calls against the second
+# program, the calls with negated samples too; and blocks at the edge of what may be read.
+host: $(HOSTS) build/blocks build/fuzz build/edges
+	@for h in $(HOSTS); do echo "$$h | cmp - examples/host.out"; $$h | cmp - examples/host.out || exit 1; done
+	test -z "$$(nm -u $(HOST) | grep ' U ' | grep -vE ' (memcpy|memmove|memset)$$')"
 	build/blocks
 	build/fuzz 10000
 	build/edges
+
+# What README tells a planner to paste, and what it says that this prints.
+planner: build/planner $(BENCH)
+	tests/planner
 
 # The bench program on the example, also where it comes in pieces of seven bytes, nothing, a block of zeros, half a setting block, a setting alone, and
 # a last block that is one byte short; then on each case of the second program: every refusal that it can meet, blocks of no sets and full ones, and
@@ -111,6 +142,10 @@ calls: $(CALLS) build/calls
 # A wrong program across two crates: a slope limit of 250 percent in the rules of a setting, which the promise of a fault fed from one end must refuse.
 slope-limit:
 	tests/slope-limit
+
+# A line for each wrong program or statement.
+wrong:
+	@tests/wrong
 
 edits:
 	tests/more-edits

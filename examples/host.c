@@ -1,6 +1,6 @@
 /* How a C host calls the engine: a setting block is made and read, two sample blocks are measured; the setting is spoiled and
- * read again, and at last given slopes that fall, which can be read but not measured with. Build after
- * `rt staticlib host`:  gcc -Iinclude examples/host.c target/staticlib/libhost.a */
+ * read again, and at last given slopes that fall, which can be read but not measured with. Each answer is shown, and held to
+ * what it must be. Build after `rt staticlib host`:  gcc -Iinclude examples/host.c target/staticlib/libhost.a */
 #include <stdio.h>
 #include <string.h>
 
@@ -61,25 +61,33 @@ static void make_samples(uint8_t *block, int sets, int current, int through)
     seal(block);
 }
 
+static int wrong;
+
+static void show(const char *what, uint32_t answer, uint32_t expected)
+{
+    printf("%s: %u\n", what, (unsigned)answer);
+    wrong |= answer != expected;
+}
+
 int main(void)
 {
-    uint8_t setting[512], samples[512];
+    uint8_t setting[TDP_BLOCK_BYTES], samples[TDP_BLOCK_BYTES];
     make_setting(setting);
-    printf("setting: %u\n", (unsigned)tdp_read_setting(setting, sizeof setting));
+    show("setting", tdp_read_setting(setting, sizeof setting), TDP_READ);
     make_samples(samples, 12, 3000, 1);
-    printf("through: %u\n", (unsigned)tdp_measure(setting, sizeof setting, samples, sizeof samples));
+    show("through", tdp_measure(setting, sizeof setting, samples, sizeof samples), TDP_MEASURED);
     make_samples(samples, 12, 3000, 0);
-    printf("fault: %u\n", (unsigned)tdp_measure(setting, sizeof setting, samples, sizeof samples));
+    show("fault", tdp_measure(setting, sizeof setting, samples, sizeof samples), TDP_MEASURED + TDP_SYSTEM_A);
     setting[60] ^= 1;
-    printf("spoiled: %u\n", (unsigned)tdp_read_setting(setting, sizeof setting));
+    show("spoiled", tdp_read_setting(setting, sizeof setting), TDP_CHECK);
     put16(setting + 60, 99);
     seal(setting);
-    printf("basic threshold 99: %u\n", (unsigned)tdp_read_setting(setting, sizeof setting));
-    printf("short: %u\n", (unsigned)tdp_read_setting(setting, 511));
+    show("basic threshold 99", tdp_read_setting(setting, sizeof setting), TDP_FIELD);
+    show("short", tdp_read_setting(setting, 511), TDP_LENGTH);
     make_setting(setting);
     put16(setting + 66, 29);
     seal(setting);
-    printf("second slope 29, first 30: %u", (unsigned)tdp_read_setting(setting, sizeof setting));
-    printf(", measured %u\n", (unsigned)tdp_measure(setting, sizeof setting, NULL, 0));
-    return 0;
+    show("second slope 29, first 30, read", tdp_read_setting(setting, sizeof setting), TDP_READ);
+    show("the same, measured", tdp_measure(setting, sizeof setting, NULL, 0), TDP_SLOPES_FALL);
+    return wrong;
 }
