@@ -12,14 +12,16 @@ mode == "names" && FILENAME ~ /\.antt$/ {
     sub(/^ +/, "")
     while (sub(/^(pub|abbrev|unfoldable|record|data|mod) /, "")) {}
     sub(/[ :({].*/, "")
-    names[$0] = 1
+    names[$0] = declared[FILENAME, $0] = 1
 }
 
 # of other files each word counts, but for comments of .rt
 mode == "words" {
     if (FILENAME ~ /\.rt$/) sub(/\/\/.*/, "")
+    crate = FILENAME
+    gsub(/^crates\/|\/.*/, "", crate)
     size = split($0, parts, /[^A-Za-z0-9_]+/)
-    for (i = 1; i <= size; i++) names[parts[i]] = 1
+    for (i = 1; i <= size; i++) names[parts[i]] = of_crate[crate, parts[i]] = 1
 }
 mode == "targets" && match($0, /^[a-z][-a-z ]*:/) { size = split(substr($0, 1, RLENGTH - 1), parts, " "); for (i = 1; i <= size; i++) targets[parts[i]] = 1 }
 
@@ -57,7 +59,7 @@ function number_list(rest, list,    count) {
 
 function look_section(rest,    name, best, i, count, list) {
     best = ""
-    for (name in sections) if (index(rest, name) == 1 && length(name) > length(best)) best = name
+    for (name in sections) if (index(rest, name) == 1 && substr(rest, length(name) + 1) !~ /^[a-z]/ && length(name) > length(best)) best = name
     cited++
     if (best == "") { tell("section " substr(rest, 1, 40)); return }
     count = number_list(substr(rest, length(best) + 1), list)
@@ -69,7 +71,7 @@ function look_cards(rest,    i, count, list) {
     for (i = 1; i <= count; i++) { cited++; if (!(list[i] in cards)) tell("card " list[i]) }
 }
 
-# a word in backquotes: a path, a name, or names with :: between them
+# a word in backquotes: a path, a name, or names with :: between them, of which a crate's stand in its code
 function look_word(word,    i, size, parts, crate, edit) {
     if (word ~ /^make /) { size = split(word, parts, " "); for (i = 2; i <= size; i++) { cited++; if (!(parts[i] in targets)) tell(word) }; return }
     if (word ~ /[ =&]/ || word !~ /[A-Za-z]/) return
@@ -87,12 +89,24 @@ function look_word(word,    i, size, parts, crate, edit) {
     if (word ~ /\.(md|sh|c|h|a|txt|blocks|out)$/ && (there(word) || there("docs/" word))) return
     size = split(word, parts, /::|\.|\(.*/)
     for (i = 1; i <= size; i++) if (parts[i] != "" && !(parts[i] in names) && !there("crates/" parts[i])) tell(word)
+    if (word ~ /::/ && there("crates/" parts[1])) for (i = 2; i <= size; i++) if (!((parts[1], parts[i]) in of_crate)) tell(word)
 }
 
-function look(    rest, size, parts, i, place) {
+# names that a file is said to have, as in `A`, `B` (`crate/specs/File.antt`)
+function look_declared(path, run,    i, size, parts) {
+    size = split(run, parts, " ")
+    for (i = 1; i <= size; i++) if (parts[i] !~ /::|\// && !(("crates/" path, parts[i]) in declared)) tell(parts[i] " of " path)
+}
+
+function look(    rest, size, parts, i, place, run) {
     if (text == "") return
     size = split(text, parts, "`")
-    for (i = 2; i <= size; i += 2) look_word(parts[i])
+    run = ""
+    for (i = 2; i <= size; i += 2) {
+        look_word(parts[i])
+        if (parts[i - 1] ~ /^( \(| in )$/ && parts[i] ~ /\.antt$/) look_declared(parts[i], run)
+        run = (parts[i - 1] ~ /^(, | and )$/ ? run " " : "") parts[i]
+    }
     for (rest = text; place = index(rest, "§ "); ) { rest = substr(rest, place + length("§ ")); look_section(substr(rest, 1, 60)) }
     for (rest = text; match(rest, /(^|[^a-z])[Cc]ards? [0-9]/); ) { rest = substr(rest, RSTART + RLENGTH - 2); look_cards(substr(rest, 1, 40)) }
     for (rest = text; match(rest, /\]\([^)]*\)/); rest = substr(rest, place)) {
