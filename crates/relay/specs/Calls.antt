@@ -1,4 +1,4 @@
--- Starting, sample and reset (§ What the relay declines 5, 6 and 7; § The relay record; § Characteristic and trip).
+-- Starting, sample and reset (§ The order of refusals 5, 6 and 7; § The relay record; § Characteristic and trip).
 use mathlib.Core.Path.{_≡_}
 use mathlib.Core.Bool.{Bool, not, _&&_, _||_, cond}
 use mathlib.Core.List.{List, [], _∷_}
@@ -167,7 +167,7 @@ pub record Resets (r : Relay) (s : Returned) : Type 0 where
   pub reply : R.outcomeOf (s .verdict) ≡ resetReply r
   pub relay : s .relay ≡ resetRelay r
 
--- ---- starting a fresh relay from setting values: 4, 5, 17, 6, 7 (§ What the relay declines 5), and then a blank record, on which every call declines with 12
+-- ---- starting a fresh relay from setting values: 4, 5, 17, 6, 7 (§ The order of refusals 5), and then a blank record, on which every call declines
 
 abbrev pub startReply : Setting → Outcome (Unit {0})
 startReply v = firstRefusal (startRows v)

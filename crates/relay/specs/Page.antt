@@ -1,4 +1,4 @@
--- Reading and writing the register page, a byte at a time (§ The register page, § What the relay declines 8 and 9).
+-- Reading and writing the register page, a byte at a time (§ The register page, § The order of refusals 8 and 9).
 use mathlib.Core.Path.{_≡_}
 use mathlib.Core.Bool.{Bool, not, _&&_, _||_, cond}
 use mathlib.Core.List.{List, [], _∷_}

@@ -1,4 +1,4 @@
--- The verdict on setting values (§ What the relay declines 2 and 5): of the setting writer, 4 to 7, and of starting a fresh relay from setting values, 4,
+-- The verdict on setting values (§ The order of refusals 2 and 5): of the setting writer, 4 to 7, and of starting a fresh relay from setting values, 4,
 -- 5, 17, 6, 7.
 use mathlib.Core.Path.{_≡_}
 use mathlib.Core.List.{List, _++_}

@@ -1,4 +1,4 @@
--- Values with slopes that fall, are level and rise, alone and beside other faults: what refuses them in a block and at a start (§ What the relay declines
+-- Values with slopes that fall, are level and rise, alone and beside other faults: what refuses them in a block and at a start (§ The order of refusals
 -- 5), worked out by hand.
 use mathlib.Core.Path.{_≡_, refl}
 use mathlib.Core.List.{List, [], _∷_, map}

@@ -1,4 +1,4 @@
--- The setting reader and writer (§ What the relay declines 1 and 2).
+-- The setting reader and writer (§ The order of refusals 1 and 2).
 use mathlib.Core.Path.{_≡_}
 use mathlib.Core.Bool.{not}
 use mathlib.Core.List.{List, [], _∷_, _++_}
