@@ -2,7 +2,7 @@
 -- smoothing of source 001, 2.3.5.
 use mathlib.Core.List.{List, [], _∷_}
 use Prim.Native.Nat.{ℕ, _+_, _*_, _%_}
-use lib.IntN.{ℤ, pos, negsuc, natAbs, _*ℤ_}
+use lib.IntN.{ℤ, pos, negℤ, natAbs, _*ℤ_}
 use lib.ListN.{getD}
 use Rattle.integer.specs.Nearest.{nearestAway}
 use Rattle.integer.specs.Root.{root}
@@ -19,10 +19,12 @@ order first = 1
 order second = 2
 order fifth = 5
 
+abbrev neg : ℕ → ℤ
+neg n = negℤ (pos n)
+
 -- the constants t0 to t11 (§ Amplitudes 2)
 abbrev pub constants : List ℤ
-constants =
-    pos 1560 ∷ pos 1351 ∷ pos 780 ∷ pos 0 ∷ negsuc 779 ∷ negsuc 1350 ∷ negsuc 1559 ∷ negsuc 1350 ∷ negsuc 779 ∷ pos 0 ∷ pos 780 ∷ pos 1351 ∷ []
+constants = pos 1560 ∷ pos 1351 ∷ pos 780 ∷ pos 0 ∷ neg 780 ∷ neg 1351 ∷ neg 1560 ∷ neg 1351 ∷ neg 780 ∷ pos 0 ∷ pos 780 ∷ pos 1351 ∷ []
 
 unfoldable pub t : ℕ → ℤ
 t k = getD constants k (pos 0)

@@ -13,10 +13,12 @@ use Rattle.setting.specs.Values.{endOf, factorTop, factorUnder, startable}
 use Rattle.matching.specs.Matching.{Three, Quotient, operation, even, sum3}
 use Rattle.matching.specs.Sets.{System, seen, phases, filtered, matchedAt}
 
--- ---- the ideal line current of a phase, in thousandths of a sample's unit, step by step; a phase sees the limbs as its system does
+-- ---- the ideal line current of a phase, step by step; a phase sees the limbs as its system does. It is in thousandths of a unit: up to `ideal` in that of
+-- w, from `overK` on in that of the end's samples.
 
--- T(12 − g) of w (T(0) for g = 0), 1351/2340 times at odd groups (§ A healthy bank 4). So the matching, T(g), gives back w: 780/1351 times 1351/2340 is
--- 1/3, and T(12 − g) after T(g) is a difference of differences, three times the number where the three sum to zero.
+-- T(12 − g) of w (T(0) for g = 0), 1351/2340 times at odd groups (§ A healthy bank 4). So T(12 − g), and after it the T(g)
+-- of the matching, gives back the number: 1351/2340 is 1351/780 over 3, so that 780/1351 of it is 1/3, and a difference of two such differences is three
+-- times the number, where the three sum to zero.
 unfoldable pub lineCurrent : (isEven : Bool) → ℕ → Three → Quotient
 lineCurrent true g w = record { top = operation ((12 - g) % 12) (w .p) (w .n) (w .q); under = 1 }
 lineCurrent false g w = record { top = pos 1351 *ℤ operation ((12 - g) % 12) (w .p) (w .n) (w .q); under = 2340 }
@@ -53,16 +55,17 @@ NearIdeal i x = Near x (i .top) (1000 * i .under)
 -- The set xs holds, within half a unit per sample, the currents of a healthy bank of the setting v. A field that is a number, w or common, reads: there
 -- are such numbers.
 pub record Healthy (v : Setting) (xs : List ℤ) : Type 0 where
-  -- there are whole numbers w, by end and limb A, B, C, in thousandths of a unit: that of a sample where k is 1 (§ A healthy bank 1)
+  -- there are whole numbers w, by end and limb A, B, C, in thousandths of a unit: that of a sample where k is 1, a thousandth of reference current
+  -- (§ A healthy bank 1)
   pub w : ℕ → Three
   -- they sum to zero over the ends for each limb (§ A healthy bank 2)
   pub over-ends : (l : System) → sum (v .ends) (λ z. seen l (w z) .p) ≡ pos 0
   -- and over the limbs at each end with the filter on; with the filter off they may sum to anything (§ A healthy bank 3)
   pub over-limbs : (z : ℕ) → z < v .ends → filtered (endOf v z) ≡ true → sum3 (w z) ≡ pos 0
-  -- one more whole number of thousandths at each end with the filter on, the same on its three phases
+  -- one more whole number at each end with the filter on, the same on its three phases, in thousandths of a sample's unit there (§ A healthy bank 7)
   pub common : ℕ → ℤ
   pub unfiltered : (z : ℕ) → z < v .ends → filtered (endOf v z) ≡ false → common z ≡ pos 0
-  -- each sample of an end in use lies within 1/2 of its ideal
+  -- each sample of an end in use lies within 1/2 of its ideal (§ A healthy bank 8)
   pub near : (z : ℕ) → z < v .ends → (l : System) →
       let e = endOf v z in
       let i = idealCurrent (even (e .group)) (filtered e) (e .group) (factorTop e) (factorUnder v) (seen l (w z)) (common z) in
@@ -74,7 +77,7 @@ pub record Healthy (v : Setting) (xs : List ℤ) : Type 0 where
 abbrev pub InReach : Setting → List ℤ → Type 0
 InReach v xs = (z : ℕ) → z < v .ends → (l : System) → (seen l (phases xs z) .p) within 32000
 
--- the sum of v over the ends in use, in thousandths of reference current
+-- the sum of the matched numbers over the ends in use, in thousandths of reference current
 unfoldable pub total : Setting → List ℤ → System → ℤ
 total v xs l = sum (v .ends) (λ z. matchedAt v xs z l)
 

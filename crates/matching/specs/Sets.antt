@@ -47,7 +47,7 @@ filtered e = eqb (e .filter) 1
 
 -- ---- the matched numbers of an end for the three systems
 
--- v of end z and a system
+-- the matched number of end z and a system
 unfoldable pub matchedAt : Setting → List ℤ → ℕ → System → ℤ
 matchedAt v xs z l = matched (factor v z) (endOf v z .group) (filtered (endOf v z)) (seen l (phases xs z))
 

@@ -34,7 +34,7 @@ AlikeBut m win win' = (l : System) → l ≢ m → (k z : ℕ) → at win k z l 
 pub record Blocking (v : Setting) (win : List ℤ) : Type 0 where
   -- one that has harmonics and a D above P blocks all three
   pub all : (m : System) → Holder v win m → (l : System) → blocked v win l ≡ true
-  -- a system's own block is as before
+  -- one with harmonics is blocked itself, whatever its D
   pub own : (l : System) → harmonics v win l ≡ true → blocked v win l ≡ true
   -- one with no harmonics is blocked by nothing but such another
   pub held : (l : System) → harmonics v win l ≡ false → blocked v win l ≡ true → Another v win l

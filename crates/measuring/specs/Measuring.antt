@@ -14,7 +14,7 @@ use Rattle.measuring.specs.declared.Reading.{Reading}
 use Rattle.measuring.specs.declared.Readings.{Readings}
 use Rattle.measuring.specs.Window.{series, sums, difference}
 
--- D, H2 and H5 are the amplitudes for h = 1, 2, 5 of the sum of v over the ends (§ Amplitudes 6).
+-- D, H2 and H5 are the amplitudes for h = 1, 2, 5 of the sum of the matched numbers over the ends in use (§ Amplitudes 6).
 abbrev pub differential : Setting → List ℤ → System → ℕ
 differential v win l = amplitude 1 (sums (v .ends) win l)
 

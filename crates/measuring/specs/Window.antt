@@ -11,11 +11,11 @@ use Rattle.matching.specs.Sets.{System, index}
 abbrev pub at : List ℤ → (k z : ℕ) → System → ℤ
 at win k z l = getD win (12 * k + (3 * z + index l)) (pos 0)
 
--- v of an end over the window
+-- the matched numbers of an end over the window
 abbrev pub series : List ℤ → (z : ℕ) → System → ℕ → ℤ
 series win z l k = at win k z l
 
--- the sum of v over the ends in use
+-- their sum over the ends in use
 abbrev pub sums : (ends : ℕ) → List ℤ → System → ℕ → ℤ
 sums E win l k = sum E (λ z. at win k z l)
 

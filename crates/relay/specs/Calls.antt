@@ -9,7 +9,7 @@ use lib.ListN.{length, drop}
 use Rattle.lists.specs.Tests.{each}
 use Rattle.integer.specs.Within.{eqZ}
 use Rattle.refusal.specs.Refusals.{Told, toldOf, Outcome, gives, declines, byOutcome, Row, _when_, firstOf, noneApplies, firstRefusal}
-use Rattle.refusal.specs.Refusals as R
+use Rattle.refusal.specs.Refusals as Refusals
 use Rattle.setting.specs.declared.Setting.{Setting}
 use Rattle.setting.specs.Values.{startRows}
 pub use Rattle.setting.specs.Worked.{blank}
@@ -164,7 +164,7 @@ abbrev pub resetRelay : Relay → Relay
 resetRelay r = byOutcome (resetReply r) (λ refusal. r) (λ done. cleared r)
 
 pub record Resets (r : Relay) (s : Returned) : Type 0 where
-  pub reply : R.outcomeOf (s .verdict) ≡ resetReply r
+  pub reply : Refusals.outcomeOf (s .verdict) ≡ resetReply r
   pub relay : s .relay ≡ resetRelay r
 
 -- ---- starting a fresh relay from setting values: 4, 5, 17, 6, 7 (§ The order of refusals 5), and then a blank record, on which every call declines
@@ -177,5 +177,5 @@ abbrev pub startedOn : Setting → Setting
 startedOn v = byOutcome (startReply v) (λ refusal. blank) (λ done. v)
 
 pub record Starts (v : Setting) (s : Returned) : Type 0 where
-  pub reply : R.outcomeOf (s .verdict) ≡ startReply v
+  pub reply : Refusals.outcomeOf (s .verdict) ≡ startReply v
   pub relay : s .relay ≡ fresh (startedOn v)

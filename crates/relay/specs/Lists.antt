@@ -23,7 +23,7 @@ after r (write offset byte) = writeRelay r offset byte
 abbrev pub run : Relay → List Call → Relay
 run r cs = foldl after r cs
 
--- R of every record of a list, the first and those after refusals included, and P of every call
-abbrev pub Every : (R : Relay → Type 0) (P : Relay → Call → Type 0) → Relay → List Call → Type 0
-Every R P r [] = R r
-Every R P r (c ∷ cs) = R r × (P r c × Every R P (after r c) cs)
+-- one statement of every record of a list, the first and those after refusals included, and one of every call
+abbrev pub Every : (OfRecord : Relay → Type 0) (OfCall : Relay → Call → Type 0) → Relay → List Call → Type 0
+Every OfRecord OfCall r [] = OfRecord r
+Every OfRecord OfCall r (c ∷ cs) = OfRecord r × (OfCall r c × Every OfRecord OfCall (after r c) cs)

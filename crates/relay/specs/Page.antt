@@ -6,7 +6,7 @@ use Prim.Native.Nat.{ℕ}
 use lib.Dec.{leb, eqb}
 use lib.ListN.{getD}
 use Rattle.refusal.specs.Refusals.{toldOf, Outcome, gives, declines, byOutcome, Row, _when_, firstOf, firstRefusal}
-use Rattle.refusal.specs.Refusals as R
+use Rattle.refusal.specs.Refusals as Refusals
 use Rattle.page.specs.Events.{written as writtenEvents}
 use Rattle.page.specs.Page.{page, shown}
 use Rattle.relay.specs.declared.Relay.{Relay}
@@ -73,5 +73,5 @@ abbrev pub writeRelay : Relay → (offset byte : ℕ) → Relay
 writeRelay r offset byte = byOutcome (writeReply r offset) (λ refusal. r) (λ done. written r offset byte)
 
 pub record Writes (r : Relay) (offset byte : ℕ) (s : Returned) : Type 0 where
-  pub reply : R.outcomeOf (s .verdict) ≡ writeReply r offset
+  pub reply : Refusals.outcomeOf (s .verdict) ≡ writeReply r offset
   pub relay : s .relay ≡ writeRelay r offset byte

@@ -11,6 +11,6 @@ use Rattle.sensitivity.specs.OneEnd.{OneEndStarts}
 unfoldable pub Distance : Type 0
 Distance = (v : Setting) → T (startable v) → (peak (v .ends) < 100) × (100 ≤ v .thresholds .basic)
 
--- Every healthy bank has D at most 45, 69, 91; every fault fed from one end starts with D above P; and P is at least 100.
+-- Every healthy bank has D at most 45, 69, 91; every fault fed from one end, with D above P, starts; and P is at least 100.
 unfoldable pub TwoSides : Type 0
 TwoSides = Stability × OneEndStarts × Distance

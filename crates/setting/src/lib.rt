@@ -32,10 +32,13 @@ pub struct Setting {
 
 // The thresholds: P, H and Q in thousandths of reference current; m1 and m2 in percent; the percents of second and fifth harmonic that block.
 pub struct Thresholds {
+    // P, H
     pub basic: u16,
     pub high: u16,
+    // m1, m2
     pub slope1: u16,
     pub slope2: u16,
+    // Q, a restraint: R is compared with 2Q
     pub knee: u16,
     pub second: u16,
     pub fifth: u16,

@@ -7,7 +7,7 @@ use Rattle.lists.specs.Tests.{Each}
 use Rattle.refusal.specs.declared.Refusal.{Refusal}
 use Rattle.refusal.specs.declared.Verdict.{Verdict}
 use Rattle.refusal.specs.Refusals.{toldOf, Outcome, gives, declines, byOutcome, firstRefusal}
-use Rattle.refusal.specs.Refusals as R
+use Rattle.refusal.specs.Refusals as Refusals
 use Rattle.refusal.proofs.Stops.{Passed, Stops, stops-declines, past-first, firstOf-values}
 use Rattle.setting.specs.declared.Setting.{Setting}
 use Rattle.setting.specs.Values.{valueRows}
@@ -20,7 +20,7 @@ abbrev pub answer : Setting → Verdict → ReadSetting
 answer v Verdict.Accepted = ReadSetting.Accepted v
 answer v (Verdict.Refused q) = ReadSetting.Refused q
 
-answer-outcome : (v : Setting) (r : Verdict) → outcomeOf (answer v r) ≡ byOutcome (R.outcomeOf r) declines (λ _. gives v)
+answer-outcome : (v : Setting) (r : Verdict) → outcomeOf (answer v r) ≡ byOutcome (Refusals.outcomeOf r) declines (λ _. gives v)
 answer-outcome v Verdict.Accepted = refl
 answer-outcome v (Verdict.Refused q) = refl
 
@@ -30,7 +30,7 @@ module _ (s : List ℕ) where
 
   -- what the verdict on the values and the zero bytes says
   pub judged :
-      Each Passed (take 3 (readRows s)) → (r : Verdict) → R.outcomeOf r ≡ firstRefusal (valueRows (blockFields s) (settingAt s)) →
+      Each Passed (take 3 (readRows s)) → (r : Verdict) → Refusals.outcomeOf r ≡ firstRefusal (valueRows (blockFields s) (settingAt s)) →
       Reads s (answer (settingAt s) r)
   unfolding readRows
   judged p r a =

@@ -7,7 +7,7 @@ use lib.Dec.{eqb, ltb}
 use lib.ListN.{length}
 use Rattle.refusal.specs.declared.Verdict.{Verdict}
 use Rattle.refusal.specs.Refusals.{toldOf, Outcome, gives, declines, byOutcome, Row, _when_, firstOf, firstRefusal}
-use Rattle.refusal.specs.Refusals as R
+use Rattle.refusal.specs.Refusals as Refusals
 use Rattle.block.specs.Block.{checked, bufferWith}
 use Rattle.setting.specs.declared.Field.{Field}
 use Rattle.setting.specs.declared.Setting.{Setting}
@@ -57,5 +57,5 @@ writeLeaves v buffer = byOutcome (writeOf v buffer) (λ refusal. buffer) (λ don
 
 -- what writing the values v to a buffer gives
 pub record Writes (v : Setting) (before : List ℕ) (r : Verdict) (after : List ℕ) : Type 0 where
-  pub outcome : R.outcomeOf r ≡ writeOf v before
+  pub outcome : Refusals.outcomeOf r ≡ writeOf v before
   pub bytes : after ≡ writeLeaves v before

@@ -1,4 +1,5 @@
--- Blocks with faults before byte 77, and what refusals 4 and 5 tell of each (§ The setting block 4 and 5), worked out by hand.
+-- Blocks with faults before byte 77, and what the refusals of E and of a field tell of each (§ What the relay declines; § The setting block 4 and 5),
+-- worked out by hand.
 use mathlib.Core.Path.{_≡_, refl}
 use mathlib.Core.List.{List, [], _∷_, _++_, map}
 use Prim.Native.Nat.{ℕ}

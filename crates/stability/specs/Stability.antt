@@ -39,10 +39,10 @@ abbrev pub CalmReply : Setting → Reply → Type 0
 CalmReply v (filling n) = Unit {0}
 CalmReply v (measured a b c trips) = Calm v a × Calm v b × Calm v c
 
--- refusal 12 does not arise, and what is given has P
-abbrev pub Without12 : {A : Type 0} → (P : A → Type 0) → Outcome A → Type 0
-Without12 P (gives a) = P a
-Without12 P (declines told) = told .number ≢ 12
+-- refusal 12 does not arise, and something holds of what is given
+abbrev pub Without12 : {A : Type 0} → (OfGiven : A → Type 0) → Outcome A → Type 0
+Without12 OfGiven (gives a) = OfGiven a
+Without12 OfGiven (declines told) = told .number ≢ 12
 
 -- refusal 12 does not arise, and a Measured answer is calm
 abbrev pub CalmCall : Setting → Relay → Call → Type 0

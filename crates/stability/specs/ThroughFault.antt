@@ -15,8 +15,8 @@ use Rattle.relay.specs.Calls.{accepted}
 abbrev pub neg : ℕ → ℤ
 neg n = negℤ (pos n)
 
--- A bank of groups 0 and 5 carries twenty times reference current on limb A, and zero sequence of five times at the end that filters it out: the samples
--- A, B, C of the two ends, and zero at the others.
+-- A bank of groups 0 and 5 carries twenty times reference current on limb A, and zero sequence of five times rated current at the end that filters it out: the
+-- samples A, B, C of the two ends, and zero at the others.
 unfoldable pub through : List ℤ
 through = (pos 18996 ∷ neg 1998 ∷ neg 1998 ∷ []) ++ (pos 16667 ∷ pos 0 ∷ neg 16667 ∷ []) ++ replicate 6 (pos 0)
 

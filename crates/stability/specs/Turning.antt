@@ -1,4 +1,4 @@
--- Turned current transformers (card 1): all leads of a bank reversed, over lists of calls from a fresh relay.
+-- Turned current transformers (§ Amplitudes 8): all leads of a bank reversed, over lists of calls from a fresh relay.
 use mathlib.Core.Path.{_≡_}
 use mathlib.Core.List.{List, map}
 use Prim.Native.Nat.{ℕ}
