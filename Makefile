@@ -53,15 +53,19 @@ build/host build/planner: build/%: examples/%.c include/tdp.h $(HOST)
 HOSTS = build/host build/host-cpp build/host-static build/host-pie build/host-shared
 
 build/host-cpp: examples/host.c include/tdp.h $(HOST)
+	@mkdir -p build
 	$(CXX) $(CXXFLAGS) -Iinclude -o $@ -x c++ $< -x none $(HOST)
 
 build/host-static: examples/host.c include/tdp.h $(HOST)
+	@mkdir -p build
 	$(CC) $(CFLAGS) -Iinclude -static -o $@ $< $(HOST)
 
 build/host-pie: examples/host.c include/tdp.h $(HOST)
+	@mkdir -p build
 	$(CC) $(CFLAGS) -Iinclude -fPIE -pie -o $@ $< $(HOST)
 
 build/host.so: examples/host.c include/tdp.h $(HOST)
+	@mkdir -p build
 	$(CC) $(CFLAGS) -Iinclude -fPIC -shared -Wl,-z,defs -Wl,-z,text -o $@ $< $(HOST)
 
 build/host-shared: build/host.so
@@ -139,7 +143,7 @@ calls: $(CALLS) build/calls
 	build/calls expect > build/calls.out
 	build/calls input | $(CALLS) | cmp - build/calls.out
 
-# A wrong program across two crates: a slope limit of 250 percent in the rules of a setting, which the promise of a fault fed from one end must refuse.
+# A wrong program across two crates: a limit of 250 percent for the second slope in the rules of a setting, which the promise of a fault fed from one end must refuse.
 slope-limit:
 	tests/slope-limit
 

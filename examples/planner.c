@@ -1,6 +1,6 @@
 /* A setting block from a planner's numbers: `planner E=2 M=3 S=400 ..` writes the block to standard output, and says on standard error where each number
- * stands, what the matching factors are, and what the relay answers. The names are those of the table in docs/SPECIFICATION.md, "The setting block", with
- * the number of the end after V, I, g and filter. A number that is not given is 0. */
+ * stands, what the matching factors are, and what the relay answers. Without numbers it lists the fields. A number that is not given is 0. The names are
+ * those of docs/SPECIFICATION.md, "The setting block", with the number of the end after V, I, g and filter. */
 #include <stdio.h>
 #include <stdlib.h>
 #include <string.h>
@@ -10,19 +10,36 @@
 struct field {
     const char *name;
     int offset, bytes;
+    unsigned long least, most;
+    const char *what;
 };
 
 static const struct field fields[] = {
-    {"E", 4, 1},      {"flags", 5, 1},   {"M", 6, 1},      {"S", 8, 4},
-    {"V0", 12, 4},    {"I0", 16, 4},     {"g0", 20, 1},    {"filter0", 21, 1},
-    {"V1", 24, 4},    {"I1", 28, 4},     {"g1", 32, 1},    {"filter1", 33, 1},
-    {"V2", 36, 4},    {"I2", 40, 4},     {"g2", 44, 1},    {"filter2", 45, 1},
-    {"V3", 48, 4},    {"I3", 52, 4},     {"g3", 56, 1},    {"filter3", 57, 1},
-    {"P", 60, 2},     {"H", 62, 2},      {"m1", 64, 2},    {"m2", 66, 2},
-    {"Q", 68, 2},     {"second", 70, 2}, {"fifth", 72, 2}, {"X", 74, 2},
-    {"curve", 76, 1},
+    {"E", 4, 1, 2, 4, "number of ends in use"},
+    {"flags", 5, 1, 0, 7, "sum of 1 blocking by the second harmonic, 2 by the fifth, 4 common blocking"},
+    {"M", 6, 1, 1, 24, "confirm count, sets"},
+    {"S", 8, 4, 1, 50000, "reference power, 0.1 MVA"},
+    {"V", 12, 4, 1, 15000, "nominal voltage of an end, 0.1 kV"},
+    {"I", 16, 4, 1, 50000, "primary rated current of its current transformers, A"},
+    {"g", 20, 1, 0, 11, "its vector group against end 0"},
+    {"filter", 21, 1, 0, 1, "1 takes its zero sequence out"},
+    {"P", 60, 2, 100, 2500, "basic threshold, thousandths of reference current"},
+    {"H", 62, 2, 2500, 30000, "high-set, thousandths of reference current"},
+    {"m1", 64, 2, 10, 150, "slope of the second section, percent"},
+    {"m2", 66, 2, 10, 150, "slope of the third section, percent; not below m1"},
+    {"Q", 68, 2, 1500, 10000, "restraint where the third section begins, thousandths of reference current"},
+    {"second", 70, 2, 10, 50, "second harmonic that blocks, percent of D"},
+    {"fifth", 72, 2, 10, 80, "fifth harmonic that blocks, percent of D"},
+    {"X", 74, 2, 200, 4000, "pick-up of the overcurrent elements, thousandths of reference current; 0 at curve 0"},
+    {"curve", 76, 1, 0, 2, "their curve: 0 off, 1 very inverse, 2 extremely inverse"},
 };
 #define FIELDS (sizeof fields / sizeof *fields)
+
+/* V, I, g and filter are there at each of four ends, 12 bytes on */
+static int of_an_end(const struct field *f)
+{
+    return f->offset >= 12 && f->offset < 24;
+}
 
 static unsigned long number_at(const uint8_t *block, int offset, int bytes)
 {
@@ -33,40 +50,45 @@ static unsigned long number_at(const uint8_t *block, int offset, int bytes)
     return x;
 }
 
+static int tell_names(void)
+{
+    for (const struct field *f = fields; f < fields + FIELDS; f++)
+        fprintf(stderr, "%s%s: %lu to %lu, %s\n", f->name, of_an_end(f) ? "0 .. 3" : "", f->least, f->most, f->what);
+    return 2;
+}
+
 /* puts one `name=number` into the block */
 static int put(uint8_t *block, const char *word)
 {
-    const char *is = strchr(word, '=');
-    size_t length = is ? (size_t)(is - word) : 0;
+    for (const struct field *f = fields; f < fields + FIELDS; f++) {
+        size_t length = strlen(f->name);
+        const char *after = word + length;
+        char *end;
+        int offset = f->offset;
+        unsigned long long x;
 
-    for (const struct field *f = fields; is && f < fields + FIELDS; f++)
-        if (strlen(f->name) == length && memcmp(f->name, word, length) == 0) {
-            char *end;
-            unsigned long long x = strtoull(is + 1, &end, 10);
-
-            if (is[1] < '0' || is[1] > '9' || *end || x >> 8 * f->bytes)
-                break;
-            for (int i = 0; i < f->bytes; i++)
-                block[f->offset + i] = (uint8_t)(x >> 8 * i & 255);
-            return 1;
+        if (strncmp(word, f->name, length) != 0)
+            continue;
+        if (of_an_end(f) && *after >= '0' && *after <= '3')
+            offset += 12 * (*after++ - '0');
+        else if (of_an_end(f))
+            continue;
+        if (*after++ != '=')
+            continue;
+        x = strtoull(after, &end, 10);
+        if (*after < '0' || *after > '9' || *end || x >> 8 * f->bytes) {
+            fprintf(stderr, "planner: %s: a whole number, %lu to %lu\n", word, f->least, f->most);
+            return 0;
         }
-    fprintf(stderr, "planner: %s is not the name of a field with a number that fits it\n", word);
+        for (int i = 0; i < f->bytes; i++)
+            block[offset + i] = (uint8_t)(x >> 8 * i & 255);
+        return 1;
+    }
+    fprintf(stderr, "planner: %s: no field has this name\n", word);
     return 0;
 }
 
-/* where each number stands that is not 0: the offset of its first byte, its name and the number */
-static void tell_fields(const uint8_t *block)
-{
-    int told = 0;
-
-    for (const struct field *f = fields; f < fields + FIELDS; f++) {
-        unsigned long x = number_at(block, f->offset, f->bytes);
-        if (x)
-            fprintf(stderr, "%s%d: %s %lu", !told++ ? "" : told % 8 == 1 ? "\n" : ", ", f->offset, f->name, x);
-    }
-    fprintf(stderr, "\n");
-}
-
+/* bytes 510 and 511: two sums, each modulo 255 */
 static void seal(uint8_t *block)
 {
     unsigned a = 0, b = 0;
@@ -79,13 +101,28 @@ static void seal(uint8_t *block)
     block[511] = (uint8_t)b;
 }
 
-/* the reference current of an end, and its matching factor: rated current over that */
-static void tell_factor(const uint8_t *block, int z)
+/* the numbers of an end, with its reference current, S over the square root of three times V, and its matching factor, I over that */
+static void tell_end(const uint8_t *block, int z)
 {
     double s = (double)number_at(block, 8, 4), v = (double)number_at(block, 12 + 12 * z, 4), i = (double)number_at(block, 16 + 12 * z, 4);
 
+    fprintf(stderr, "%2d: V%d %.0f, %d: I%d %.0f, %d: g%d %u, %d: filter%d %u", 12 + 12 * z, z, v, 16 + 12 * z, z, i, 20 + 12 * z, z,
+            (unsigned)block[20 + 12 * z], 21 + 12 * z, z, (unsigned)block[21 + 12 * z]);
     if (s > 0 && v > 0)
-        fprintf(stderr, "end %d: reference current %.1f A, factor %.3f\n", z, 780000 * s / (1351 * v), 1351 * v * i / (780000 * s));
+        fprintf(stderr, "; reference current %.1f A, factor %.4f", 780000 * s / (1351 * v), 1351 * v * i / (780000 * s));
+    fprintf(stderr, "\n");
+}
+
+/* where each number stands: the offset of its first byte, its name, and the number */
+static void tell_block(const uint8_t *block)
+{
+    for (const struct field *f = fields; f < fields + FIELDS; f++) {
+        if (f->offset == 12)
+            for (int z = 0; z < 4 && (z < block[4] || number_at(block, 12 + 12 * z, 4) != 0); z++)
+                tell_end(block, z);
+        if (!of_an_end(f))
+            fprintf(stderr, "%2d: %s %lu%s", f->offset, f->name, number_at(block, f->offset, f->bytes), f[1].offset == 12 || f[0].offset == 76 ? "\n" : ", ");
+    }
 }
 
 static const char *told(uint32_t answer)
@@ -93,7 +130,7 @@ static const char *told(uint32_t answer)
     switch (answer) {
     case TDP_READ: return "a sound block";
     case TDP_ENDS: return "the number of ends is not 2 to 4";
-    case TDP_FIELD: return "a field is outside its range";
+    case TDP_FIELD: return "a number is outside its range";
     case TDP_FACTOR_HIGH: return "a factor is above 16";
     case TDP_FACTORS_LOW: return "the second largest factor is below 0.5";
     case TDP_SLOPES_FALL: return "m2 is less than m1, and no relay is started";
@@ -101,24 +138,42 @@ static const char *told(uint32_t answer)
     }
 }
 
+/* which numbers are outside their ranges; an end that is not in use, and X at curve 0, must be 0 */
+static void tell_wrong(const uint8_t *block)
+{
+    for (const struct field *f = fields; f < fields + FIELDS; f++)
+        for (int z = 0; z < (of_an_end(f) ? 4 : 1); z++) {
+            unsigned long x = number_at(block, f->offset + 12 * z, f->bytes);
+            int used = of_an_end(f) ? z < block[4] : f->offset != 74 || block[76] != 0;
+            unsigned long most = f->offset == 20 && z == 0 ? 0 : f->most;
+
+            if (!used && x != 0)
+                fprintf(stderr, "%2d: %s %lu: not in use, and must be 0\n", f->offset + 12 * z, f->name, x);
+            if (used && (x < f->least || x > most))
+                fprintf(stderr, "%2d: %s %lu: must be %lu to %lu\n", f->offset + 12 * z, f->name, x, f->least, most);
+        }
+}
+
 int main(int count, char **words)
 {
     uint8_t block[TDP_BLOCK_BYTES] = "TDP1";
-    int sound = 1;
+    int known = 1;
     uint32_t answer;
 
+    if (count < 2)
+        return tell_names();
     for (int i = 1; i < count; i++)
-        sound &= put(block, words[i]);
-    if (!sound)
+        known &= put(block, words[i]);
+    if (!known)
         return 2;
     seal(block);
-    tell_fields(block);
-    for (int z = 0; z < 4; z++)
-        tell_factor(block, z);
+    tell_block(block);
     answer = tdp_read_setting(block, sizeof block);
     if (answer == TDP_READ && tdp_measure(block, sizeof block, NULL, 0) == TDP_SLOPES_FALL)
         answer = TDP_SLOPES_FALL;
     fprintf(stderr, "the relay answers %u: %s\n", (unsigned)answer, told(answer));
+    if (answer == TDP_FIELD)
+        tell_wrong(block);
     fwrite(block, 1, sizeof block, stdout);
     return answer != TDP_READ;
 }
