@@ -7,8 +7,11 @@ mode == "spec" && /^## / { section = substr($0, 4); sections[section] = 1 }
 mode == "spec" && match($0, /^(\| )?[0-9]+\. /) { number = $0; gsub(/^\| |\. .*/, "", number); numbers[section, number] = 1 }
 mode == "spec" && section == "Change requests" && match($0, /^\| [0-9]+ /) { cards[$2] = 1 }
 
+# what a line of .antt takes from the kit's library
+mode == "names" && /^use (mathlib|lib|Prim)\./ { size = split($0, parts, /[^-A-Za-z0-9_]+/); for (i = 1; i <= size; i++) names[parts[i]] = 1 }
+
 # the word that a line of .antt begins with, after its modifiers: what it declares or defines
-mode == "names" && FILENAME ~ /\.antt$/ {
+mode == "names" {
     sub(/^ +/, "")
     while (sub(/^(pub|abbrev|unfoldable|record|data|mod) /, "")) {}
     sub(/[ :({].*/, "")
@@ -74,7 +77,7 @@ function look_cards(rest,    i, count, list) {
 # a word in backquotes: a path, a name, or names with :: between them, of which a crate's stand in its code
 function look_word(word,    i, size, parts, crate, edit) {
     if (word ~ /^make /) { size = split(word, parts, " "); for (i = 2; i <= size; i++) { cited++; if (!(parts[i] in targets)) tell(word) }; return }
-    if (word ~ /[ =&]/ || word !~ /[A-Za-z]/) return
+    if (word ~ /[ =&]|·/ || word !~ /[A-Za-z]/) return
     cited++
     if (word ~ /^(build|target)\//) return
     if (word ~ /\//) {
