@@ -28,7 +28,7 @@ pub record MoreEager (v : Setting) : Type 0 where
   pub started : starts v D R ≡ true
   pub not-above : 200 * D ≤ secondLine (v .thresholds) R
 
--- Every setting that a block may hold and whose slopes fall has such a D and R: 17 declines none without need.
+-- Every setting that a block may hold and whose slopes fall has such a D and R: of these 17 declines none without need.
 unfoldable pub FallingEager : Type 0
 FallingEager = (v : Setting) → T (storable v) → T (falling (v .thresholds)) → MoreEager v
 

@@ -68,7 +68,7 @@ pub record FewTurns : Type 0 where
   pub few : (n : ℕ) → n < 2 ^ 64 → turns n ≤ digits n
   pub none : turns 0 ≡ 0
 
--- what finding the root gives: the definition's number, and the sentence of it (§ Amplitudes 4); and the turns, one counted in each
+-- what finding the root gives: the definition's number, which is the largest whose square is at most n (§ Amplitudes 4); and how many turns the loop took
 pub record FindsRoot (n : ℕ) (f : Found) : Type 0 where
   pub same : f .root ≡ root n
   pub largest : Root n (f .root)

@@ -52,6 +52,6 @@ abbrev pub exponent : Curve → ℕ
 exponent veryInverse = 1
 exponent extremelyInverse = 2
 
--- With G = j / 10, and 60 sets in a tenth of a second, that is 60·k·10^α / (j^α − 10^α) sets: the fraction that the entry is of.
+-- With G = j / 10, and 60 sets in a tenth of a second, that is 60·k·10^α / (j^α − 10^α) sets: the fraction that the entry is rounded up from.
 unfoldable pub ByStandard : Type 0
 ByStandard = (c : Curve) (j : ℕ) → (over c ≡ 60 * tenths c * 10 ^ exponent c) × (under c j ≡ j ^ exponent c - 10 ^ exponent c)

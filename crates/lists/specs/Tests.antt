@@ -18,8 +18,8 @@ abbrev pub each {ℓ} : {A : Type ℓ} → (A → Bool) → List A → Bool
 each t [] = true
 each t (a ∷ l) = t a && each t l
 
--- P holds of each element
+-- S holds of each element
 infixr 5 _&_
-pub data Each {A : Type 0} (P : A → Type 0) : List A → Type 0 where
-  none : Each P []
-  _&_ : {a : A} {l : List A} → P a → Each P l → Each P (a ∷ l)
+pub data Each {A : Type 0} (S : A → Type 0) : List A → Type 0 where
+  none : Each S []
+  _&_ : {a : A} {l : List A} → S a → Each S l → Each S (a ∷ l)

@@ -33,7 +33,7 @@ even g = eqb (g % 2) 0
 abbrev pub sum3 : Three → ℤ
 sum3 x = x .p +ℤ x .n +ℤ x .q
 
--- a number x, less z0, three times
+-- a number y, less the z0 of x, three times
 abbrev pub lessZero : Three → ℤ → ℤ
 lessZero x y = pos 3 *ℤ y -ℤ sum3 x
 

@@ -22,8 +22,8 @@ perEnd f = record { e0 = f 0; e1 = f 1; e2 = f 2; e3 = f 3 }
 abbrev pub timed : (ends curve z : ℕ) → Bool
 timed E curve z = not (eqb curve 0) && ltb z E
 
--- what a measured set makes of them, A being the largest amplitude of each end: at curve 0 none moves, and at other ends only a reset changes sum or trip
--- (§ Backup overcurrent 6)
+-- what a measured set makes of them, A being the largest amplitude of each end: at curve 0 none moves, and at ends that are not in use only a reset
+-- changes sum or trip (§ Backup overcurrent 6)
 unfoldable pub backupAfter : (ends curve X : ℕ) (A : ℕ → ℕ) → Backup → Backup
 backupAfter E curve X A b =
     perEnd (λ z. cond (timed E curve z) (timerAfter (curveOf curve) (multiple X (A z)) (timerOf b z)) (timerOf b z))

@@ -17,7 +17,7 @@ use Rattle.overcurrent.specs.Watching.{largest}
 square : ℕ → ℕ → ℤ
 square x k = cond (ltb k 6) (pos x) (negℤ (pos x))
 
--- the largest of end 0, as system 1 or 2; system 3 and end 1 have none
+-- A of end 0 with the larger current in system 2, and then in system 1; and A of end 1, which has no current
 found : List ℕ
 found = largest (window (square 100) (square 200)) 0 ∷ largest (window (square 200) (square 100)) 0 ∷ largest (window (square 100) (square 200)) 1 ∷ []
 

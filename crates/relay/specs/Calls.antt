@@ -147,7 +147,7 @@ pub record Gives (o : Outcome Reply) (after : Relay) (s : Sampled) : Type 0 wher
 abbrev pub Samples : Relay → List ℤ → Sampled → Type 0
 Samples r xs s = Gives (sampleReply r xs) (sampleRelay r xs) s
 
--- ---- reset: 12; it clears counters and latches, not windows; flags and interrupt mask stay; it clears overcurrent sums and their trips
+-- ---- reset: 12; it clears counters and latches, not the window; flags and interrupt mask stay; it clears overcurrent sums and their trips
 -- (§ Characteristic and trip 7)
 
 unfoldable pub resetRows : Relay → List Row

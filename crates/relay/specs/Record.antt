@@ -14,7 +14,7 @@ use Rattle.inverse_time.specs.Timers.{idle}
 use Rattle.overcurrent.specs.Ends.{perEnd, sumsWithin}
 use Rattle.relay.specs.declared.Relay.{Relay}
 
--- ---- a fresh relay: the values of its setting, empty windows, all else zero or clear
+-- ---- a fresh relay: the values of its setting, an empty window, all else zero or clear
 
 unfoldable pub fresh : Setting → Relay
 fresh v =
@@ -36,11 +36,11 @@ admissions r =
     ∷ leb (r .window .fill) 12
     -- a matched number in any place beyond ±800,000
     ∷ each numberWithin (r .window .values)
-    -- or a counter above M
+    -- a counter above M
     ∷ hold (countersWithin (r .setting .confirm) (r .trip))
     -- flags or interrupt mask above 7
     ∷ hold (within (r .events))
-    -- a larger sum than 1,000,000,000
+    -- an overcurrent sum above 1,000,000,000
     ∷ hold (sumsWithin (r .backup))
     ∷ []
 

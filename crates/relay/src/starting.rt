@@ -16,7 +16,7 @@ use state::Element;
 use state::Trip;
 use state::Window;
 
-// Setting values that are all zero, of which no relay can be started.
+// Setting values that are all zero, on which no relay can be started.
 pub fn blank() -> Setting
     ensures { λ r. ⌜ r ≡ blankOf ⌝ }
 {

@@ -1,5 +1,5 @@
--- Values with slopes that fall, are level and rise, alone and beside other faults: what refuses them in a block and at a start (§ The order of refusals
--- 5), worked out by hand.
+-- Values with slopes that fall, are level and rise, alone and beside other faults: what refuses them in a block and at a start (§ The order of
+-- refusals 2 and 5), worked out by hand.
 use mathlib.Core.Path.{_≡_, refl}
 use mathlib.Core.List.{List, [], _∷_, map}
 use mathlib.Core.Option.{some}
@@ -22,7 +22,7 @@ toldOfBoth v = toldBy (storeRows v) ∷ toldBy (startRows v) ∷ []
 abbrev pub fieldAt : ℕ → Told
 fieldAt x = record { number = 5; offset = some x }
 
--- a K above 16, and both below 0.5 (§ Numbers to meet)
+-- a k above 16, and both below 0.5 (§ Numbers to meet)
 abbrev pub tooHigh : Setting
 tooHigh = twoEnds 1351 (rated 780 16001) (rated 780 1000)
 

@@ -16,7 +16,7 @@ unused = rated 0 0
 abbrev pub off : Overcurrent
 off = record { pickup = 0; curve = 0 }
 
--- values that are all zero, of which no relay can be started: a start that is refused leaves them (§ The order of refusals 5)
+-- values that are all zero, on which no relay can be started: a start that is refused leaves them (§ The order of refusals 5)
 abbrev pub blank : Setting
 blank =
     record {

@@ -1,4 +1,4 @@
--- What a block holds (§ The setting block 6: slopes that fall can be read, and written back to the same bytes).
+-- What a block holds (§ The setting block 6: slopes that fall can be read). That it is written back to the same bytes is `ReadThenWrite`.
 use mathlib.Core.Path.{_≡_}
 use mathlib.Core.List.{List}
 use Prim.Native.Nat.{ℕ}

@@ -1,4 +1,4 @@
--- A record whose setting has slopes that fall (§ The relay record 1: it counts under 12).
+-- A record whose setting has slopes that fall (§ The relay record 1: it is inadmissible, refusal 12).
 use mathlib.Core.Path.{_≡_}
 use mathlib.Core.Bool.{true}
 use mathlib.Core.List.{List, [], _∷_}

@@ -59,7 +59,7 @@ countersWithin M t = leb (t .a .count) M ∷ leb (t .b .count) M ∷ leb (t .c .
 abbrev pub full : Window → Bool
 full w = eqb (w .fill) 12
 
--- its twelve numbers are filed after the sets held
+-- a set's twelve numbers are filed after the sets held
 abbrev pub afterHeld : Window → List ℤ → Window
 afterHeld w ns = record { values = take (12 * w .fill) (w .values) ++ (ns ++ drop (12 * w .fill + 12) (w .values)); fill = w .fill + 1 }
 
