@@ -99,7 +99,7 @@ stored: build/numbers build/vectors build/bench
 	build/bench two input | cmp - examples/faults.blocks
 	build/bench two expect | cmp - examples/faults.out
 
-# Every file, section and name that README, docs/ and the comments of specs/ cite is there.
+# What README, docs/ and the comments of specs/ and src/ cite is there: sections, cards, links, and the files and names in backquotes.
 references:
 	tests/references
 

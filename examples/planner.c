@@ -57,8 +57,8 @@ static int tell_names(void)
     return 2;
 }
 
-/* puts one `name=number` into the block */
-static int put(uint8_t *block, const char *word)
+/* puts one `name=number` into the block; `given` has a mark at the first byte of each field that was given before */
+static int put(uint8_t *block, uint8_t *given, const char *word)
 {
     for (const struct field *f = fields; f < fields + FIELDS; f++) {
         size_t length = strlen(f->name);
@@ -80,11 +80,15 @@ static int put(uint8_t *block, const char *word)
             fprintf(stderr, "planner: %s: a whole number, %lu to %lu\n", word, f->least, f->most);
             return 0;
         }
+        if (given[offset]++) {
+            fprintf(stderr, "planner: %s: given twice\n", word);
+            return 0;
+        }
         for (int i = 0; i < f->bytes; i++)
             block[offset + i] = (uint8_t)(x >> 8 * i & 255);
         return 1;
     }
-    fprintf(stderr, "planner: %s: no field has this name\n", word);
+    fprintf(stderr, "planner: %s: no field has this name; without numbers, planner lists them\n", word);
     return 0;
 }
 
@@ -109,19 +113,29 @@ static void tell_end(const uint8_t *block, int z)
     fprintf(stderr, "%2d: V%d %.0f, %d: I%d %.0f, %d: g%d %u, %d: filter%d %u", 12 + 12 * z, z, v, 16 + 12 * z, z, i, 20 + 12 * z, z,
             (unsigned)block[20 + 12 * z], 21 + 12 * z, z, (unsigned)block[21 + 12 * z]);
     if (s > 0 && v > 0)
-        fprintf(stderr, "; reference current %.1f A, factor %.4f", 780000 * s / (1351 * v), 1351 * v * i / (780000 * s));
+        fprintf(stderr, "; reference current %.1f A, factor %.6f", 780000 * s / (1351 * v), 1351 * v * i / (780000 * s));
     fprintf(stderr, "\n");
+}
+
+static int zero(const uint8_t *bytes, int count)
+{
+    while (count > 0 && bytes[count - 1] == 0)
+        count--;
+    return count == 0;
 }
 
 /* where each number stands: the offset of its first byte, its name, and the number */
 static void tell_block(const uint8_t *block)
 {
     for (const struct field *f = fields; f < fields + FIELDS; f++) {
+        int last = f->offset == 8 || f->offset == 76;
+
         if (f->offset == 12)
-            for (int z = 0; z < 4 && (z < block[4] || number_at(block, 12 + 12 * z, 4) != 0); z++)
-                tell_end(block, z);
+            for (int z = 0; z < 4; z++)
+                if (z < block[4] || !zero(block + 12 + 12 * z, 12))
+                    tell_end(block, z);
         if (!of_an_end(f))
-            fprintf(stderr, "%2d: %s %lu%s", f->offset, f->name, number_at(block, f->offset, f->bytes), f[1].offset == 12 || f[0].offset == 76 ? "\n" : ", ");
+            fprintf(stderr, "%2d: %s %lu%s", f->offset, f->name, number_at(block, f->offset, f->bytes), last ? "\n" : ", ");
     }
 }
 
@@ -138,32 +152,48 @@ static const char *told(uint32_t answer)
     }
 }
 
-/* which numbers are outside their ranges; an end that is not in use, and X at curve 0, must be 0 */
-static void tell_wrong(const uint8_t *block)
+/* says so where the number of a field is outside its range; an end that is not in use, and X at curve 0, must be 0 */
+static void tell_wrong(const uint8_t *block, const struct field *f, int z)
 {
-    for (const struct field *f = fields; f < fields + FIELDS; f++)
-        for (int z = 0; z < (of_an_end(f) ? 4 : 1); z++) {
-            unsigned long x = number_at(block, f->offset + 12 * z, f->bytes);
-            int used = of_an_end(f) ? z < block[4] : f->offset != 74 || block[76] != 0;
-            unsigned long most = f->offset == 20 && z == 0 ? 0 : f->most;
+    int offset = f->offset + 12 * z;
+    int used = of_an_end(f) ? z < block[4] : f->offset != 74 || block[76] != 0;
+    unsigned long x = number_at(block, offset, f->bytes), least = used ? f->least : 0, most = !used || offset == 20 ? 0 : f->most;
+    char end[2] = {of_an_end(f) ? (char)('0' + z) : '\0', '\0'};
 
-            if (!used && x != 0)
-                fprintf(stderr, "%2d: %s %lu: not in use, and must be 0\n", f->offset + 12 * z, f->name, x);
-            if (used && (x < f->least || x > most))
-                fprintf(stderr, "%2d: %s %lu: must be %lu to %lu\n", f->offset + 12 * z, f->name, x, f->least, most);
-        }
+    if (x >= least && x <= most)
+        return;
+    fprintf(stderr, "%2d: %s%s %lu", offset, f->name, end, x);
+    if (!used)
+        fprintf(stderr, ": is not in use, and must be 0\n");
+    else if (least == most)
+        fprintf(stderr, ": must be %lu\n", least);
+    else
+        fprintf(stderr, ": must be %lu to %lu\n", least, most);
+}
+
+/* all that are, in the order of the block */
+static void tell_all_wrong(const uint8_t *block)
+{
+    for (const struct field *f = fields; f < fields + FIELDS; f++) {
+        if (f->offset == 12)
+            for (int z = 0; z < 4; z++)
+                for (const struct field *of = f; of_an_end(of); of++)
+                    tell_wrong(block, of, z);
+        if (!of_an_end(f))
+            tell_wrong(block, f, 0);
+    }
 }
 
 int main(int count, char **words)
 {
-    uint8_t block[TDP_BLOCK_BYTES] = "TDP1";
+    uint8_t block[TDP_BLOCK_BYTES] = "TDP1", given[TDP_BLOCK_BYTES] = {0};
     int known = 1;
     uint32_t answer;
 
     if (count < 2)
         return tell_names();
     for (int i = 1; i < count; i++)
-        known &= put(block, words[i]);
+        known &= put(block, given, words[i]);
     if (!known)
         return 2;
     seal(block);
@@ -172,8 +202,8 @@ int main(int count, char **words)
     if (answer == TDP_READ && tdp_measure(block, sizeof block, NULL, 0) == TDP_SLOPES_FALL)
         answer = TDP_SLOPES_FALL;
     fprintf(stderr, "the relay answers %u: %s\n", (unsigned)answer, told(answer));
-    if (answer == TDP_FIELD)
-        tell_wrong(block);
+    if (answer == TDP_ENDS || answer == TDP_FIELD)
+        tell_all_wrong(block);
     fwrite(block, 1, sizeof block, stdout);
     return answer != TDP_READ;
 }

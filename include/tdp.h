@@ -8,19 +8,20 @@
  * What is measured: at each end in use, two to four, three phases A, B, C in this rotation have current transformers. The currents of all ends are brought to
  * the same scale and vector group, and added up phase by phase as end 0 has them: three systems A, B, C. D of a system is the amplitude of the fundamental
  * of that sum over the last 12 sets, the differential current. Its restraint r is half the amplitude of end 0 minus end 1 with two ends, and half the
- * sum of the ends' amplitudes with more. With slopes as fractions, it starts where
+ * sum of the ends' amplitudes with more. D, 2r and the harmonics are whole numbers, rounded down, in thousandths of reference current, amplitude over amplitude.
+ * With slopes as fractions, a system starts where
  *
  *    r up to P/2:        D > P
  *    r up to Q:          D > P + m1 (r - P/2)
  *    r above that:       D > P + m1 (Q - P/2) + m2 (r - Q)
  *
- * and harmonics of the sum, as percents of D, block it; under common blocking those of one system with D above P block all three. A system trips after M
- * sets in a row at which it starts and is not blocked, or at which D is above H, and is latched from then on.
+ * and a second or fifth harmonic of the sum above its percent of D blocks it, where its flag is set; under common blocking that of one system with D above P
+ * blocks all three. A system trips after M sets in a row at which it starts and is not blocked, or at which D is above H, and is latched from then on.
  *
  * Both blocks are of 512 bytes, and numbers of several bytes have the low byte first.
  *
- * Setting block. z is an end, 0 to 3. P, H, Q and X are in thousandths of reference current, which is S over V and the square root of three: in A, 1,000 S /
- * (1.732 V) with S and V as in the block.
+ * Setting block. z is an end, 0 to 3. P, H, Q and X are in thousandths of reference current, which is S over V and the square root of three, taken as
+ * 1351/780: in A, 780,000 S / (1351 V) with S and V as in the block.
  *
  *    offset    bytes  field                                               range
  *         0        4  mark                                                "TDP1"
@@ -29,11 +30,12 @@
  *                     2 by the fifth, 4 common blocking, added up
  *         6        1  M, confirm count, in sets                           1 to 24
  *         8        4  S, reference power, in 0.1 MVA                      1 to 50,000
- *    12 + 12z      4  V, nominal voltage of end z, in 0.1 kV              1 to 15,000
+ *    12 + 12z      4  V, nominal voltage of end z between phases,         1 to 15,000
+ *                     in 0.1 kV
  *    16 + 12z      4  I, primary rated current of its current             1 to 50,000
  *                     transformers, in A
- *    20 + 12z      1  vector group: its phases lag those of end 0         0 to 11; 0 at end 0
- *                     by so many times 30 degrees
+ *    20 + 12z      1  vector group: what enters at end 0 leaves here      0 to 11; 0 at end 0
+ *                     so many times 30 degrees later
  *    21 + 12z      1  filter: 1 takes zero sequence out, which no         0, 1
  *                     vector group does by itself
  *        60        2  P, basic threshold                                  100 to 2,500
@@ -47,8 +49,9 @@
  *        76        1  their curve: 0 off, 1 very, 2 extremely inverse     0 to 2
  *       510     1, 1  the check, a and b
  *
- *    All other bytes are zero, and so are the numbers of ends from E on. Two rules more: I over the reference current of its end, to the nearest 1/65,536, is 16
- *    at most at every end in use, and 0.5 or more at two of them; and m2 is not less than m1 where a relay is to be started.
+ *    All other bytes are zero, and so are the numbers of ends from E on. Two rules more. The matching factor of an end is I over its reference current: 65,536
+ *    times it, 65,536 x 1351 V I / (780,000 S) to the nearest whole number with a half up, is 1,048,576 (16) at most at every end in use, and 32,768 (0.5)
+ *    or more at two of them. And m2 is not less than m1 where a relay is to be started.
  *
  * Sample block:
  *
@@ -88,9 +91,9 @@ enum tdp_answer {
     TDP_CHECK = 2,        /* its check is wrong */
     TDP_MARK = 3,         /* its mark is wrong */
     TDP_ENDS = 4,         /* the number of ends is not 2 to 4 */
-    TDP_FIELD = 5,        /* a field of a setting block is outside its range, or a byte that must be zero is not */
-    TDP_FACTOR_HIGH = 6,  /* I over the reference current of an end is above 16 */
-    TDP_FACTORS_LOW = 7,  /* the second largest of these is below 0.5 */
+    TDP_FIELD = 5,        /* a field of a setting block is outside its range, or a byte that must be zero is not; which one is not told */
+    TDP_FACTOR_HIGH = 6,  /* a matching factor is above 16 */
+    TDP_FACTORS_LOW = 7,  /* the second largest matching factor is below 0.5 */
     TDP_SETS = 8,         /* a sample block holds more than 21 sets */
     TDP_SPARE = 9,        /* a byte of a sample block that must be zero is not */
     TDP_SAMPLE = 10,      /* a sample is beyond +-32,000 */
@@ -99,7 +102,8 @@ enum tdp_answer {
     TDP_MEASURED = 100    /* every set is taken: this, plus the systems that are latched after the last */
 };
 
-/* The systems that an answer from TDP_MEASURED up says are latched: a sum of these. It must be taken off the answer first, whose own bits mean nothing. */
+/* The systems that an answer from TDP_MEASURED up says are latched, as a sum. TDP_MEASURED must be taken off the answer first: the bits of the answer itself
+ * mean nothing, and an answer below it has no systems. */
 #define TDP_LATCHED(answer) ((answer) - 100u)
 #define TDP_SYSTEM_A 1u
 #define TDP_SYSTEM_B 2u
