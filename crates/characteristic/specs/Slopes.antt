@@ -10,7 +10,7 @@ use Rattle.setting.specs.Values.{storeRows, storable, falling, startRows, start
 use Rattle.setting.specs.Worked.{fallen}
 use Rattle.characteristic.specs.Characteristic.{starts}
 
--- the second section's line, 200·P + m1·(R − P), carried on: it is that section's for R up to 2Q
+-- the second section's line, 200·P + m1·(R − P) with R twice the restraint, carried on: it is that section's for R up to 2Q
 abbrev pub secondLine : Thresholds → (R : ℕ) → ℕ
 secondLine t R = 200 * t .basic + t .slope1 * (R - t .basic)
 

@@ -113,7 +113,7 @@ fn blocks(m: Readings) -> Bits
     }
 }
 
-// D1, R1, D2, R2, D3, R3 in turn.
+// D1, R1, D2, R2, D3, R3 in turn, with R twice the restraint.
 fn current(m: Readings, k: usize) -> u32
     ensures { λ n. ⌜ n ≡ getD (currents m) k 0 ⌝ }
 {

@@ -43,8 +43,8 @@ before = upTo 11 surge
 unfoldable pub faults : List Call
 faults = surge 11 ∷ surge 0 ∷ []
 
--- A relay can be started on this setting, and the last two of these calls, as many as its M, each measure such a fault of system 1; R, which is D there, lies
--- in the third section. So the system trips (`OneEndTrips`).
+-- A relay can be started on this setting, and the last two of these calls, as many as its M, each measure such a fault of system 1; R, twice the
+-- restraint, is D there and lies in the third section. So the system trips (`OneEndTrips`).
 unfoldable pub SteepestSeen : Type 0
 SteepestSeen =
     T (startable steepest)

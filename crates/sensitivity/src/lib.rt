@@ -5,7 +5,7 @@ ghost use Rattle.sensitivity.specs.Trips.{OneEndTrips, BlockingOffTrips,
 ghost use Rattle.sensitivity.specs.TwoSides.{TwoSides};
 ghost use Rattle.sensitivity.specs.Example.{SteepestSeen};
 
-// A system fed from one end has R = D, and starts exactly when D > P; and sets with current at one end alone feed it so.
+// A system fed from one end has R, twice the restraint, equal to D, and starts exactly when D > P; and sets with current at one end alone feed it so.
 pub fn one_end()
     ensures { λ _. ⌜ OneEndStarts × OneEndSamples ⌝ }
 {}

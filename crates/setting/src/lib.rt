@@ -38,7 +38,7 @@ pub struct Thresholds {
     // m1, m2
     pub slope1: u16,
     pub slope2: u16,
-    // Q, a restraint: R is compared with 2Q
+    // Q, a restraint: R, twice the restraint, is compared with 2Q
     pub knee: u16,
     pub second: u16,
     pub fifth: u16,

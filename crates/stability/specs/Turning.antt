@@ -53,7 +53,8 @@ pub record Turned (v : Setting) (r t : Relay) : Type 0 where
   pub of-end : (z : ℕ) (l : System) → CyclesNegated (series (t .window .values) z l) (series (r .window .values) z l)
   -- the same sets are accepted
   pub same-sets : (xs : List ℤ) → accepted v (negated xs) ≡ accepted v xs
-  -- and every answer is the same: Filling and its number; D, R, H2, H5, start, blocked and latched, and the overcurrent trips; or the refusal
+  -- and every answer is the same: Filling and its number; D, R (twice the restraint), H2, H5, start, blocked and latched, and the overcurrent trips; or
+  -- the refusal
   pub same-answer : (xs : List ℤ) → sampleReply t (negated xs) ≡ sampleReply r xs
   pub same-reset : resetReply t ≡ resetReply r
   -- so is every byte of the register page, and what a write answers
