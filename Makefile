@@ -109,7 +109,8 @@ proved: host planner bench calls
 # The C calls: the example, in each way of building it; what the library asks of a host; 100,000 setting blocks and 10,000 measuring calls against the second
 # program, the calls with negated samples too; and blocks at the edge of what may be read.
 host: $(HOSTS) build/blocks build/fuzz build/edges
-	@for h in $(HOSTS); do echo "$$h | cmp - examples/host.out"; $$h | cmp - examples/host.out || exit 1; done
+	@for h in $(HOSTS); do echo "$$h > build/host.out && cmp build/host.out examples/host.out"; $$h > build/host.out && \
+		cmp build/host.out examples/host.out || exit 1; done
 	test -z "$$(nm -u $(HOST) | grep ' U ' | grep -vE ' (memcpy|memmove|memset)$$')"
 	build/blocks
 	build/fuzz 10000
