@@ -2,11 +2,12 @@
 -- smoothing of source 001, 2.3.5.
 use mathlib.Core.List.{List, [], _∷_}
 use Prim.Native.Nat.{ℕ, _+_, _*_, _%_}
-use lib.IntN.{ℤ, pos, negℤ, natAbs, _*ℤ_}
+use lib.IntN.{ℤ, pos, natAbs, _*ℤ_}
 use lib.ListN.{getD}
 use Rattle.integer.specs.Nearest.{nearestAway}
 use Rattle.integer.specs.Root.{root}
 use Rattle.integer.specs.Sum.{sum}
+use Rattle.integer.specs.Within.{neg}
 
 -- the harmonics that are measured: h = 1, 2, 5
 pub data Harmonic : Type 0 where
@@ -18,9 +19,6 @@ abbrev pub order : Harmonic → ℕ
 order first = 1
 order second = 2
 order fifth = 5
-
-abbrev neg : ℕ → ℤ
-neg n = negℤ (pos n)
 
 -- the constants t0 to t11 (§ Amplitudes 2)
 abbrev pub constants : List ℤ

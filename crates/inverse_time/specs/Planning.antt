@@ -1,4 +1,4 @@
--- What a planner asks of a pick-up and a curve (§ Backup overcurrent): below which current no element moves, and after how many sets it trips.
+-- What a planner asks of a pick-up and a curve (§ Backup overcurrent): below which current no sum grows, and after how many sets it trips.
 use mathlib.Core.Path.{_≡_}
 use mathlib.Core.Logic.{_↔_}
 use mathlib.Core.Bool.{true}

@@ -4,14 +4,12 @@ use mathlib.Core.Path.{_≡_, refl}
 use mathlib.Core.Bool.{Bool, true, false}
 use mathlib.Core.List.{List, [], _∷_, map}
 use Prim.Native.Nat.{ℕ}
-use lib.IntN.{ℤ, pos, negℤ, _*ℤ_}
+use lib.IntN.{ℤ, pos, _*ℤ_}
+use Rattle.integer.specs.Within.{neg}
 use Rattle.integer.specs.Nearest.{floor, nearest, nearestAway}
 use Rattle.matching.specs.Matching.{Three, three, Quotient, operation, even, operated, matched}
 use Rattle.matching.specs.Sets.{System, sysA, sysB, sysC, seen}
 use Rattle.matching.specs.Bank.{lineCurrent, gained, ideal, idealCurrent}
-
-abbrev neg : ℕ → ℤ
-neg n = negℤ (pos n)
 
 -- the matched numbers of systems 1, 2, 3 for the samples x of A, B, C
 trio : (K g : ℕ) (filter : Bool) → Three → Three

@@ -4,7 +4,8 @@ use mathlib.Core.Bool.{Bool, true, false, cond}
 use mathlib.Core.List.{List, [], _∷_, _++_, map}
 use Prim.Native.Nat.{ℕ, _/_, _%_}
 use lib.Dec.{ltb, eqb}
-use lib.IntN.{ℤ, pos, negsuc, negℤ}
+use lib.IntN.{ℤ, pos, negsuc}
+use Rattle.integer.specs.Within.{neg}
 use Rattle.integer.specs.Nearest.{nearestAway, nearest, floor}
 use Rattle.integer.specs.Root.{rootBy}
 use Rattle.integer.specs.Sum.{sum}
@@ -21,9 +22,6 @@ use Rattle.measuring.specs.Measuring.{differential, second, fifth}
 -- A row: what the definitions give, and the number to meet.
 abbrev Worked : Type 0
 Worked = ℤ × ℤ
-
-abbrev neg : ℕ → ℤ
-neg n = negℤ (pos n)
 
 -- ---- settings of two ends, of group 0 with no filter, and P 200, m1 30, m2 70, Q 4,000
 

@@ -91,9 +91,9 @@ sloped m1 m2 v =
 unfoldable pub fallen : Setting
 fallen = sloped 70 30 plain
 
--- a transformer of 40 MVA, 110/20 kV, group 5: S 40 MVA; 110 kV and 300 A, group 0, filter on; 20 kV and 1,200 A, group 5, filter off
-unfoldable pub factory : Setting
-factory =
+-- a transformer of 40 MVA, 110/20 kV, Yd5: 110 kV and 300 A, group 0, filter on; 20 kV and 1,200 A, group 5, filter off
+unfoldable pub yd5 : Setting
+yd5 =
     record {
       ends = 2;
       flags = 3;

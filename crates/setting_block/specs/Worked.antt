@@ -6,7 +6,7 @@ use Prim.Native.Nat.{ℕ}
 use lib.ListN.{set, take}
 use Rattle.refusal.specs.Refusals.{Told, alone}
 use Rattle.setting.specs.Values.{fields, valueRows}
-use Rattle.setting.specs.Worked.{factory}
+use Rattle.setting.specs.Worked.{yd5}
 use Rattle.setting.specs.Verdicts.{toldBy, fieldAt}
 use Rattle.setting_block.specs.Layout.{settingAt, fewSpares, spare, header}
 
@@ -15,10 +15,10 @@ abbrev pub changed : List ℕ → List (ℕ × ℕ) → List ℕ
 changed s [] = s
 changed s (x ∷ xs) = changed (set s (x .0) (x .1)) xs
 
--- what 4 and 5, the first two rows, tell of the setting `factory`, of two ends, with bytes of its block before 77 changed: 0 where neither applies
+-- what 4 and 5, the first two rows, tell of the setting `yd5`, of two ends, with bytes of its block before 77 changed: 0 where neither applies
 abbrev pub told : List (ℕ × ℕ) → Told
 told xs =
-    let s = changed (header factory) xs in
+    let s = changed (header yd5) xs in
     toldBy (take 2 (valueRows (fields (settingAt s) ++ map (spare s) fewSpares) (settingAt s)))
 
 abbrev pub faults : List (Told × Told)
@@ -50,5 +50,5 @@ faults =
     ∷ []
 
 pub faults-met : map (λ r. r .0) faults ≡ map (λ r. r .1) faults
-unfolding factory settingAt header valueRows
+unfolding yd5 settingAt header valueRows
 faults-met = refl

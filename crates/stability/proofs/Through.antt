@@ -8,13 +8,13 @@ use native.Mathlib.Omega.{arith}
 use lib.Dec.{T, ltb, ltb→lt}
 use lib.IntN.{ℤ, pos, negℤ, natAbs}
 use Rattle.integer.specs.Nearest.{nearest, floor}
-use Rattle.integer.specs.Within.{eqZ}
+use Rattle.integer.specs.Within.{neg, eqZ}
 use Rattle.integer.specs.Sum.{sum}
 use Rattle.lists.specs.Lists.{upTo}
 use Rattle.lists.specs.Tests.{hold}
 use Rattle.setting.specs.declared.Setting.{Setting}
 use Rattle.setting.specs.Values.{endOf, factor, factorHigh, factorsLow, startRows, startable}
-use Rattle.setting.specs.Worked.{factory}
+use Rattle.setting.specs.Worked.{yd5}
 use Rattle.setting.proofs.LimitLaws.{startable-is}
 use Rattle.matching.specs.Matching.{Three, three, operation, sum3}
 use Rattle.matching.specs.Sets.{seen, phases, filtered}
@@ -23,7 +23,7 @@ use Rattle.matching.specs.Neutral.{NeutralBefore}
 use Rattle.matching.proofs.NeutralLaws.{neutral-before}
 use Rattle.matching.proofs.Tested.{facts, tested}
 use Rattle.relay.specs.Calls.{setRows, accepted}
-use Rattle.stability.specs.ThroughFault.{neg, through, ThroughFault, autotransformer, earthed, oddBank, earthedOdd, NewlyHealthy, EarthFaults}
+use Rattle.stability.specs.ThroughFault.{through, ThroughFault, autotransformer, earthed, oddBank, earthedOdd, NewlyHealthy, EarthFaults}
 
 -- the currents of a bank of two ends: what flows in at end 0, in thousandths on the limbs A, B, C, leaves at end 1
 abbrev flow : (a b c : ℤ) → ℕ → Three
@@ -36,8 +36,8 @@ zeroSequence zero = pos 5000000
 zeroSequence (suc z) = pos 0
 
 pub through-fault : ThroughFault
-unfolding ThroughFault factory through factor factorHigh factorsLow startRows nearest floor upTo setRows eqZ facts sum seen lineCurrent gained ideal operation
-through-fault = (tt, tt, tested factory (flow (pos 20000000) (neg 10000000) (neg 10000000)) zeroSequence through tt)
+unfolding ThroughFault yd5 through factor factorHigh factorsLow startRows nearest floor upTo setRows eqZ facts sum seen lineCurrent gained ideal operation
+through-fault = (tt, tt, tested yd5 (flow (pos 20000000) (neg 10000000) (neg 10000000)) zeroSequence through tt)
 
 -- ---- neutral current
 

@@ -3,17 +3,15 @@
 use mathlib.Core.List.{List, [], _∷_, _++_}
 use Prim.Native.Nat.{ℕ}
 use lib.Dec.{T}
-use lib.IntN.{ℤ, pos, negℤ}
+use lib.IntN.{ℤ, pos}
 use lib.ListN.{replicate}
+use Rattle.integer.specs.Within.{neg}
 use Rattle.setting.specs.declared.Setting.{Setting}
 use Rattle.setting.specs.Values.{startable}
-use Rattle.setting.specs.Worked.{rated, unused, off, twoEnds, factory}
+use Rattle.setting.specs.Worked.{rated, unused, off, twoEnds, yd5}
 use Rattle.matching.specs.Bank.{Healthy}
 use Rattle.matching.specs.Neutral.{WithoutNeutral}
 use Rattle.relay.specs.Calls.{accepted}
-
-abbrev pub neg : ℕ → ℤ
-neg n = negℤ (pos n)
 
 -- A bank of groups 0 and 5 carries twenty times reference current on limb A, and zero sequence of five times rated current at the end that filters it out: the
 -- samples A, B, C of the two ends, and zero at the others.
@@ -22,7 +20,7 @@ through = (pos 18996 ∷ neg 1998 ∷ neg 1998 ∷ []) ++ (pos 16667 ∷ pos 0 �
 
 -- A relay can be started on the setting; the set is accepted and is that of a healthy bank.
 unfoldable pub ThroughFault : Type 0
-ThroughFault = T (startable factory) × T (accepted factory through) × Healthy factory through
+ThroughFault = T (startable yd5) × T (accepted yd5 through) × Healthy yd5 through
 
 -- ---- neutral current (§ A healthy bank 3 and 5)
 
@@ -47,7 +45,7 @@ autotransformer =
 unfoldable pub earthed : List ℤ
 earthed = (pos 6998 ∷ neg 875 ∷ neg 875 ∷ []) ++ (neg 6561 ∷ pos 219 ∷ pos 219 ∷ []) ++ (pos 4593 ∷ pos 328 ∷ pos 328 ∷ []) ++ replicate 3 (pos 0)
 
--- The two ends of `factory`, groups 0 and 5, with both filters off.
+-- The two ends of `yd5`, groups 0 and 5, with both filters off.
 unfoldable pub oddBank : Setting
 oddBank = twoEnds 400 (rated 1100 300) (record { voltage = 200; current = 1200; group = 5; filter = 0 })
 
