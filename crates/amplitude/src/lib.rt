@@ -1,5 +1,7 @@
 // Amplitudes of one cycle: the root of c² + s², from the parts of their sums.
 
+#![tactic(auto)]
+
 ghost use Rattle.std.specs.Prelude.{◌≡◌};
 ghost use Rattle.amplitude.specs.Parts.{joined as joined_of, PairInput, SumInput, PartsInput, JoinOf, SquareOf, OfParts};
 ghost use Rattle.amplitude.specs.Peak.{PeakBound};

@@ -1,6 +1,8 @@
 // What stands between sample calls: the register page read and written, a reset, a start on the setting values of the record, a part of the record
 // changed, and the record printed.
 
+#![tactic(auto)]
+
 pub mod begun;
 pub mod paged;
 pub mod record;

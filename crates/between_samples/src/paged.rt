@@ -5,7 +5,7 @@ ghost use Rattle.std.specs.Prelude.{◌≡◌, ◌+◌, ◌<◌, length};
 use relay::{PageByte, Relay};
 
 // A read or a write at an offset, and the byte written.
-#[derive(Drop)]
+#[derive(Clone, Copy)]
 pub struct PageCall {
     write: bool,
     byte: u8,

@@ -1,10 +1,12 @@
 // Three bits by their places, and as a number 0 to 7: what masks and flags are made of.
 
+#![tactic(auto)]
+
 ghost use Rattle.std.specs.Prelude.{◌≡◌, ◌&&◌, ◌||◌, cond};
 ghost use Rattle.bits.specs.Bits.{bits_of, mask_of, either as either_of, both as both_of, without as without_of, some as some_of};
 
 // Bits 0, 1 and 2.
-#[derive(Drop)]
+#[derive(Clone, Copy)]
 pub struct Bits {
     pub b0: bool,
     pub b1: bool,

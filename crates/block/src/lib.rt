@@ -1,12 +1,14 @@
 // Blocks of 512 bytes: the check, little-endian numbers, runs of zeros.
 
+#![tactic(auto)]
+
 ghost use Rattle.std.specs.Prelude.{◌≡◌, ◌+◌, ◌≤◌, ◌<◌, ◌%◌, length, take};
 ghost use Rattle.block.specs.Bytes.{u16_at, u32_at, signed as signed_of, i16_at, bytes16, bytes32, bits as bits_of, zeros as zeros_of, ByteOf};
 ghost use Rattle.block.specs.Block.{sums_of, checked as checked_of, sealed, buffer_with};
 ghost use Rattle.block.specs.Columns.{column_sums};
 
 // The two sums of the check.
-#[derive(Drop)]
+#[derive(Clone, Copy)]
 pub struct Sums {
     pub a: u8,
     pub b: u8,
@@ -25,7 +27,7 @@ fn wider(x: u8) -> u32
 }
 
 // The 510 bytes under the check as 15 rows of 34: the sum of each column, and the sum of what that sum was before each row.
-#[derive(Drop)]
+#[derive(Clone, Copy)]
 struct Columns {
     sums: [u16; 34],
     rows: [u16; 34],

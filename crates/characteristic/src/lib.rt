@@ -1,5 +1,7 @@
 // The characteristic of one system: the three sections, harmonics, and what counts toward a trip.
 
+#![tactic(auto)]
+
 ghost use Rattle.std.specs.Prelude.{◌≡◌, ◌&&◌, ◌||◌, ◌+◌, ◌*◌, ◌≤◌, ltb};
 ghost use Rattle.characteristic.specs.Characteristic.{starts as starts_of, has_harmonics, held_by, counts as counts_of};
 ghost use Rattle.characteristic.specs.Products.{Wide, Product};
@@ -10,7 +12,7 @@ ghost use Rattle.characteristic.specs.OneEnd.{StartsAboveP, BlindBySlope1, Blind
 use setting::Setting;
 
 // The currents of a system, in thousandths of reference current: D, R (twice the restraint), the second and the fifth harmonic.
-#[derive(Drop)]
+#[derive(Clone, Copy)]
 pub struct Currents {
     pub d: u32,
     pub r: u32,
@@ -19,7 +21,7 @@ pub struct Currents {
 }
 
 // What the harmonics of a system hold back: the system itself; others, under common blocking.
-#[derive(Drop)]
+#[derive(Clone, Copy)]
 pub struct Held {
     pub own: bool,
     pub others: bool,

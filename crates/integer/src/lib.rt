@@ -1,6 +1,8 @@
 // Whole numbers: division to the nearest, the whole square root, and bounds on the size. The laws of integers that the
 // other crates' proofs cite stand in proofs/.
 
+#![tactic(auto)]
+
 ghost use Rattle.std.specs.Prelude.{◌≡◌, ◌+◌, ◌/◌, ◌^◌, ◌<◌, leb, nat_abs};
 ghost use Rattle.lists.specs.Tests.{each};
 ghost use Rattle.integer.specs.Nearest.{Divides, nearest as nearest_of, nearest_away};
@@ -31,7 +33,7 @@ pub fn nearest_away(a: i64, b: u64) -> i64
 }
 
 // The largest number whose square is at most another, and the turns of the loop that found it.
-#[derive(Drop)]
+#[derive(Clone, Copy)]
 pub struct Found {
     pub root: u64,
     pub turns: u8,

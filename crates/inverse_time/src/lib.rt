@@ -1,5 +1,7 @@
 // The inverse-time element of an end: its curves, its sum and its trip.
 
+#![tactic(auto)]
+
 pub mod curves;
 
 ghost use Rattle.std.specs.Prelude.{◌≡◌, ◌≤◌};
@@ -9,7 +11,7 @@ ghost use Rattle.inverse_time.specs.Rows.{SummedInARow, TrippedInARow};
 ghost use Rattle.inverse_time.specs.Planning.{PickUp, Unmoved, HeldTrips};
 
 // The sum and the trip of an end.
-#[derive(Drop)]
+#[derive(Clone, Copy)]
 pub struct Timer {
     pub sum: u32,
     pub trip: bool,

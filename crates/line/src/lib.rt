@@ -1,5 +1,7 @@
 // The lines that the bench program prints, put in a lent buffer: that of a set, of at most 67 bytes, and that of a refusal, of at most 12.
 
+#![tactic(auto)]
+
 ghost use Rattle.std.specs.Prelude.{◌+◌, ◌≤◌, length};
 ghost use Rattle.refusal.specs.Refusals.{told_of};
 ghost use Rattle.line.specs.Line.{currents, refused, PutsFew, columns_of, line_of};

@@ -93,12 +93,12 @@ module _ {A : Type 0} {P : A → Type 0} where
   pub each_take : {l : List A} → Each P l → (n : ℕ) → Each P (take n l)
   each_take h zero = none
   each_take none (suc n) = none
-  each_take (p & h) (suc n) = p & each_take h n
+  each_take (◌&◌ {l = l} p h) (suc n) = p & each_take {l = l} h n
 
   pub each_drop : {l : List A} → Each P l → (n : ℕ) → Each P (drop n l)
   each_drop h zero = h
   each_drop none (suc n) = none
-  each_drop (p & h) (suc n) = each_drop h n
+  each_drop (◌&◌ {l = l} p h) (suc n) = each_drop {l = l} h n
 
   pub each_get : {l : List A} → Each P l → {d : A} → P d → (k : ℕ) → P (get_or l k d)
   each_get none e k = e

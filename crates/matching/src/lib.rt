@@ -1,5 +1,7 @@
 // Matching: a sample set to matched numbers, for ratio, vector group and zero sequence.
 
+#![tactic(auto)]
+
 ghost use Rattle.std.specs.Prelude.{◌≡◌, ◌<◌};
 ghost use Rattle.matching.specs.Matching.{three, even, operation as operation_of, operated as operated_of};
 ghost use Rattle.matching.specs.Sets.{numbers as numbers_of};
@@ -11,7 +13,7 @@ ghost use Rattle.matching.specs.Neutral.{Widened, NeutralBefore};
 use setting::Setting;
 
 // The matched numbers of an end for systems 1, 2 and 3.
-#[derive(Drop)]
+#[derive(Clone, Copy)]
 pub struct Trio {
     pub a: i32,
     pub b: i32,
@@ -19,7 +21,7 @@ pub struct Trio {
 }
 
 // What an end multiplies the samples of the own phase, the next and the one before by.
-#[derive(Drop)]
+#[derive(Clone, Copy)]
 pub struct EndWeights {
     pub own: i64,
     pub next: i64,

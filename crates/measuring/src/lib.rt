@@ -1,5 +1,7 @@
 // Measuring a full window: differential, twice the restraint, harmonics, start and blocking of the three systems.
 
+#![tactic(auto)]
+
 ghost use Rattle.std.specs.Prelude.{◌≡◌, ◌&&◌, ◌||◌, ◌*◌, ◌≤◌, ◌-ℤ◌};
 ghost use Rattle.matching.specs.Sets.{system};
 ghost use Rattle.characteristic.specs.Characteristic.{starts as starts_of, common_on};
@@ -15,7 +17,7 @@ use characteristic::{Currents, Held};
 use setting::Setting;
 
 // What is measured of a system: its currents, in thousandths of reference current, with r twice the restraint; start, blocked.
-#[derive(Drop)]
+#[derive(Clone, Copy)]
 pub struct Reading {
     pub d: u32,
     pub r: u32,
@@ -26,7 +28,7 @@ pub struct Reading {
 }
 
 // Those of systems 1, 2 and 3.
-#[derive(Drop)]
+#[derive(Clone, Copy)]
 pub struct Readings {
     pub a: Reading,
     pub b: Reading,
@@ -34,7 +36,7 @@ pub struct Readings {
 }
 
 // What is measured of the three systems, and the h = 1 amplitudes of the ends where they are asked for: number 3 z + y is of end z and system y.
-#[derive(Drop)]
+#[derive(Clone, Copy)]
 pub struct WithEnds {
     pub readings: Readings,
     pub amplitudes: [u32; 12],

@@ -3,6 +3,8 @@
 // little-endian.
 // second/numbers.c makes the input and the expected output.
 
+#![tactic(auto)]
+
 ghost use Rattle.integer.specs.Nearest.{Divides};
 
 fn rounded(away: bool, a: i64, b: u64) -> i64

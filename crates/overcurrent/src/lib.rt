@@ -1,5 +1,7 @@
 // Backup overcurrent: the inverse-time elements of the four ends, their sums and trips.
 
+#![tactic(auto)]
+
 pub mod watching;
 
 ghost use Rattle.std.specs.Prelude.{◌≡◌, cond, ◌<◌, max};
@@ -12,7 +14,7 @@ use inverse_time::Timer;
 use measuring::Readings;
 
 // The sums and trips of the four ends.
-#[derive(Drop)]
+#[derive(Clone, Copy)]
 pub struct Backup {
     pub e0: Timer,
     pub e1: Timer,
@@ -21,7 +23,7 @@ pub struct Backup {
 }
 
 // Which ends have tripped.
-#[derive(Drop)]
+#[derive(Clone, Copy)]
 pub struct Trips {
     pub e0: bool,
     pub e1: bool,
@@ -30,7 +32,7 @@ pub struct Trips {
 }
 
 // What is measured of a full window, and sums and trips after it.
-#[derive(Drop)]
+#[derive(Clone, Copy)]
 pub struct Watched {
     pub readings: Readings,
     pub backup: Backup,

@@ -1,5 +1,7 @@
 // The register page of the bay controller: event flags, the interrupt mask, and the byte at each offset.
 
+#![tactic(auto)]
+
 pub mod noting;
 pub mod showing;
 
@@ -14,7 +16,7 @@ use measuring::{Reading, Readings};
 use state::Trip;
 
 // Event flags (bit 0 new start, bit 1 new trip, bit 2 refused set), and the interrupt mask.
-#[derive(Drop)]
+#[derive(Clone, Copy)]
 pub struct Events {
     pub flags: u8,
     pub mask: u8,

@@ -1,5 +1,7 @@
 // What the programs of the tests share: counts and numbers of eight bytes, and numbers, refusals and readings written to standard output one by one.
 
+#![tactic(auto)]
+
 ghost use Rattle.std.specs.Prelude.{◌≡◌, ◌+◌, ◌<◌, nat_abs, length};
 
 use measuring::Reading;

@@ -9,7 +9,7 @@ use setting::{End, Setting, Thresholds};
 use state::{Element, Trip, Window};
 
 // What a change block holds: the part, which one of several, and the new value as a number of one, two and four bytes.
-#[derive(Drop)]
+#[derive(Clone, Copy)]
 pub struct Change {
     pub part: u8,
     pub which: u8,

@@ -1,10 +1,12 @@
 // The refusals, their numbers, and the answer of a call that gives no values.
 
+#![tactic(auto)]
+
 ghost use Rattle.std.specs.Prelude.{◌≡◌};
 ghost use Rattle.refusal.specs.Refusals.{number_of};
 
 // The refusals, in the order of their numbers 1 to 17.
-#[derive(Drop)]
+#[derive(Clone, Copy)]
 pub enum Refusal {
     // A block that is not 512 bytes.
     Length,
@@ -68,7 +70,7 @@ pub fn number(r: Refusal) -> u8
 }
 
 // The answer of a call that gives no values: accepted, or the refusal.
-#[derive(Drop)]
+#[derive(Clone, Copy)]
 pub enum Verdict {
     Accepted,
     Refused(Refusal),

@@ -34,7 +34,7 @@ module _ {v : Setting} {Allowed : Call → Type 0} (I : Invariant v Allowed) whe
 
   from : {g : I.State} {r : Relay} {cs : List Call} → Valid v r → I.Inv g r → Each Allowed cs → Along g r cs
   from h i none = ends h i
-  from h i (◌&◌ {a = c} p ps) = let k = I.keeps h i p (step h c) in goes h i k.1 (from (valid_after h c) k.0 ps)
+  from {g = g} {r = r} h i (◌&◌ {a = c} {l = l} p ps) = let k = I.keeps h i p (step h c) in goes h i k.1 (from {g = I.next g c} {r = after r c} (valid_after h c) k.0 ps)
 
   pub along : T (startable v) → {cs : List Call} → Each Allowed cs → Along I.start (fresh v) cs
   unfolding fresh

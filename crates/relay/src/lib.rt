@@ -1,5 +1,7 @@
 // The relay: the record, its start, sample and reset calls, and its register page, read and written a byte at a time.
 
+#![tactic(auto)]
+
 pub mod accepting;
 pub mod calls;
 pub mod paging;
@@ -13,7 +15,7 @@ use setting::Setting;
 use state::{Trip, Window};
 
 // The relay record.
-#[derive(Drop)]
+#[derive(Clone, Copy)]
 pub struct Relay {
     pub setting: Setting,
     pub window: Window,
@@ -23,7 +25,7 @@ pub struct Relay {
 }
 
 // What a Measured answer says of a system.
-#[derive(Drop)]
+#[derive(Clone, Copy)]
 pub struct Measure {
     pub reading: Reading,
     pub latched: bool,
@@ -31,34 +33,34 @@ pub struct Measure {
 
 // The answer to a sample call: the number of sets held while the window fills; once it is full the three systems, and which ends' overcurrent elements have
 // tripped; or the refusal.
-#[derive(Drop)]
+#[derive(Clone, Copy)]
 pub enum Answer {
     Filling(u8),
     Measured(Measure, Measure, Measure, Trips),
     Refused(Refusal),
 }
 
-#[derive(Drop)]
+#[derive(Clone, Copy)]
 pub struct Sampled {
     pub answer: Answer,
     pub relay: Relay,
 }
 
 // The answer to a start, a reset or a write, and the record that comes back: blank where a start is refused.
-#[derive(Drop)]
+#[derive(Clone, Copy)]
 pub struct Returned {
     pub verdict: Verdict,
     pub relay: Relay,
 }
 
 // The answer to a read of the register page: the byte, or the refusal.
-#[derive(Drop)]
+#[derive(Clone, Copy)]
 pub enum PageByte {
     Byte(u8),
     Refused(Refusal),
 }
 
-#[derive(Drop)]
+#[derive(Clone, Copy)]
 pub struct PageRead {
     pub answer: PageByte,
     pub relay: Relay,

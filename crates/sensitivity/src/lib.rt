@@ -1,5 +1,7 @@
 // What the relay sees, the other side of demand 3: no code, the statements and their proofs.
 
+#![tactic(auto)]
+
 ghost use Rattle.sensitivity.specs.OneEnd.{OneEndStarts, OneEndSamples};
 ghost use Rattle.sensitivity.specs.Trips.{OneEndTrips, BlockingOffTrips, HighSetTrips, StaysLatched};
 ghost use Rattle.sensitivity.specs.TwoSides.{TwoSides};

@@ -1,11 +1,13 @@
 // Setting values, their rules and factors, and the verdict on them.
 
+#![tactic(auto)]
+
 pub mod factors;
 pub mod judging;
 pub mod rules;
 
 // An end: nominal voltage V in 0.1 kV, primary rated current I in A, vector group, zero-sequence filter.
-#[derive(Drop)]
+#[derive(Clone, Copy)]
 pub struct End {
     pub voltage: u32,
     pub current: u32,
@@ -14,7 +16,7 @@ pub struct End {
 }
 
 // Setting values. A value of this type may break the rules: `verdict` says whether it does.
-#[derive(Drop)]
+#[derive(Clone, Copy)]
 pub struct Setting {
     // The number of ends E.
     pub ends: u8,
@@ -33,7 +35,7 @@ pub struct Setting {
 }
 
 // The thresholds: P, H and Q in thousandths of reference current; m1 and m2 in percent; the percents of second and fifth harmonic that block.
-#[derive(Drop)]
+#[derive(Clone, Copy)]
 pub struct Thresholds {
     // P, H
     pub basic: u16,
@@ -48,7 +50,7 @@ pub struct Thresholds {
 }
 
 // The inverse-time elements: the pick-up X in thousandths of reference current; the curve, 0 off, 1 very inverse, 2 extremely inverse.
-#[derive(Drop)]
+#[derive(Clone, Copy)]
 pub struct Overcurrent {
     pub pickup: u16,
     pub curve: u8,
@@ -56,11 +58,11 @@ pub struct Overcurrent {
 
 // A field of the block: the offset of its first byte, whether it is in use, the least and the most that it may then be, and its value. A field that is
 // not in use is zero.
-#[derive(Drop)]
+#[derive(Clone, Copy)]
 pub struct Field(pub u16, pub bool, pub u32, pub u32, pub u32);
 
 // The lowest offset of a field outside its rule, if there is one.
-#[derive(Drop)]
+#[derive(Clone, Copy)]
 pub enum Fault {
     Nowhere,
     At(u16),

@@ -1,5 +1,7 @@
 // The setting block: 512 bytes, read to setting values and written from them.
 
+#![tactic(auto)]
+
 pub mod reader;
 pub mod writer;
 
@@ -7,7 +9,7 @@ use refusal::Refusal;
 use setting::Setting;
 
 // What reading a block gives.
-#[derive(Drop)]
+#[derive(Clone, Copy)]
 pub enum ReadSetting {
     Accepted(Setting),
     Refused(Refusal),

@@ -165,7 +165,8 @@ module _ (v : Setting) (s : T (startable v)) where
 
   from : {r : Relay} → Valid v r → Unsummed r → (cs : List Call) → Every (λ r. Unit {0}) (BelowPickUp v) r cs → Every Unsummed UntrippedCall r cs
   from h u [] low = u
-  from h u (c ∷ cs) (x, (low, lows)) = let k = keep h u low (step h c) in (u, (k.1, from (valid_after h c) k.0 cs lows))
+  from {r = r} h u (c ∷ cs) (x, (low, lows)) =
+      let k = keep h u low (step h c) in (u, (k.1, from {r = after r c} (valid_after h c) k.0 cs lows))
 
 pub none_trips : NoneTrips
 unfolding NoneTrips fresh

@@ -210,7 +210,8 @@ turned_now {v} {r} h =
 turned_run : {v : Setting} {r : Relay} → Valid v r → (cs : List Call) → Turned v (run r cs) (run (turned_relay r) (map turned_call cs))
 turned_run h [] = turned_now h
 turned_run {v} {r} h (c ∷ cs) =
-    subst (λ (t : Relay). Turned v (run (after r c) cs) (run t (map turned_call cs))) (sym (turned_after h c)) (turned_run (valid_after h c) cs)
+    subst (λ (t : Relay). Turned v (run (after r c) cs) (run t (map turned_call cs))) (sym (turned_after h c))
+    (turned_run {v = v} {r = after r c} (valid_after h c) cs)
 
 pub turning : Turning
 unfolding Turning fresh

@@ -1,5 +1,7 @@
 // The theorems over lists of calls, mostly from a fresh relay: no code, the statements and their proofs.
 
+#![tactic(auto)]
+
 ghost use Rattle.stability.specs.Lists.{SettingKept, WindowFiled, Answered, ResetAccepted, ReadAnswered, WriteAnswered};
 ghost use Rattle.stability.specs.Trips.{Latched, Counted};
 ghost use Rattle.stability.specs.Timers.{Summed, TimerTripped, NoneTrips};

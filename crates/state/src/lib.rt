@@ -1,5 +1,7 @@
 // The parts of the relay record: the window of matched numbers, and the counter and the latch of each system.
 
+#![tactic(auto)]
+
 ghost use Rattle.std.specs.Prelude.{◌≡◌, true, ◌++◌, ◌+◌, ◌≤◌, length, take, drop};
 ghost use Rattle.lists.specs.Tests.{each, hold};
 ghost use Rattle.state.specs.State.{number_within, counters_within, Files, counter_after, element_after, latches_of, latch_sum};
@@ -8,20 +10,20 @@ ghost use Rattle.state.specs.Rows.{LatchedInARow, CountedInARow};
 use bits::Bits;
 
 // Twelve places of matched numbers: number 12k + 3z + y is that of set k (oldest 0), end z and system y. `fill` places are held.
-#[derive(Drop)]
+#[derive(Clone, Copy)]
 pub struct Window {
     pub values: [i32; 144],
     pub fill: u8,
 }
 
 // The counter and the latch of a system, and those of the three.
-#[derive(Drop)]
+#[derive(Clone, Copy)]
 pub struct Element {
     pub count: u8,
     pub latch: bool,
 }
 
-#[derive(Drop)]
+#[derive(Clone, Copy)]
 pub struct Trip {
     pub a: Element,
     pub b: Element,

@@ -1,6 +1,8 @@
 // Text put together in a lent buffer, so that a program writes it in large pieces: a caller shows that there is room for it. And numbers written to
 // standard output one by one.
 
+#![tactic(auto)]
+
 ghost use Rattle.std.specs.Prelude.{◌≡◌, ◌≤◌, nat_abs, length};
 ghost use Rattle.text.specs.Text.{FewestPlaces, decimal, field, Room, Puts};
 
