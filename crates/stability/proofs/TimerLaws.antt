@@ -29,7 +29,7 @@ use Rattle.state.specs.State.{full}
 use Rattle.relay.specs.declared.Relay.{Relay}
 use Rattle.relay.specs.Record.{fresh}
 use Rattle.relay.specs.Calls.{window_after, backup_now, measure_now, filling, measured, reply_now, relay_now, refused_relay, cleared}
-use Rattle.relay.specs.Lists.{Call, Every}
+use Rattle.relay.specs.Lists.{Call, after, Every}
 use Rattle.relay.proofs.Admission.{is_T}
 use Rattle.relay.proofs.Kept.{Valid, Step, step, files, declines, clears, reads, resets_by_page, writes, fresh_admissible, valid_after}
 use Rattle.relay.proofs.Induction.{Invariant, along, last, any_call}

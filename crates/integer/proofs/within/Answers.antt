@@ -10,8 +10,8 @@ use lib.IntN.{ℤ, pos, nat_abs, ◌-ℤ◌}
 use lib.Signed.{lt_z, le_z}
 use Rattle.integer.proofs.Reading.{ints, arithℤ, abs_is, ◌⇒◌}
 use Rattle.integer.proofs.Machine.{back}
-use Rattle.integer.proofs.within.Statement.{statement}
-use Rattle.integer.proofs.within.Tie as tie
+use Rattle.integer.proofs.within.Goals as goal
+use Rattle.integer.proofs.within.Goals.{Start}
 
 module _ (x : ℤ) (m : ℕ) where
   below : lt_z x (pos 0 -ℤ pos m) ≡ true → false ≡ leb (nat_abs x) m
@@ -24,19 +24,16 @@ module _ (x : ℤ) (m : ℕ) where
       by true e = sym (le-leb (nat_abs x) m (h ⇒ e ⇒ simp ints (omega (arith, abs_is x))))
       by false e = sym (lt-leb (nat_abs x) m (e ⇒ simp ints (omega (arith, abs_is x))))
 
-cast-high : tie.Need-overflow-cast-high
-cast-high c = search rules
+pub overflow_cast-high : goal.overflow_cast-high
+overflow_cast-high c = search rules
 
-sub-if1 : tie.Need-overflow-sub-if1
-sub-if1 c = rw (back (cast-high c)) (simp ints (omega arithℤ))
+pub overflow_sub-high : goal.overflow_sub-high
+overflow_sub-high c = rw (back (overflow_cast-high c)) (simp ints (omega arithℤ))
 
-returns : tie.Need-returns
-returns c = let s = c.before in below s.args.x s.args.most (rw (back (sub-if1 s), back (cast-high s), back s.ranges.x) at c.if1.true)
+pub returns-then-x-high : goal.returns-then-x-high
+returns-then-x-high c = let s = c in below s.args.x s.args.most (rw (back (overflow_sub-high (goal.at.returns-then-x-high c).Start), back (overflow_cast-high (goal.at.returns-then-x-high c).Start), back s.ranges.x) at c.if-x-high.true)
 
-returns-2 : tie.Need-returns-2
-returns-2 c =
-    let s = c.before in
-    rw (back (cast-high s), back s.ranges.x) (not_below_lem s.args.x s.args.most (rw (back (sub-if1 s), back (cast-high s), back s.ranges.x) at c.if1.false))
-
-pub within-spec : {M : Type 1} → statement M
-within-spec = tie.close (tie.spec cast-high sub-if1 returns returns-2)
+pub returns : goal.returns
+returns c =
+    let s = c in
+    rw (back (overflow_cast-high (goal.at.returns c).Start), back s.ranges.x) (not_below_lem s.args.x s.args.most (rw (back (overflow_sub-high (goal.at.returns c).Start), back (overflow_cast-high (goal.at.returns c).Start), back s.ranges.x) at c.if-x-high.false))

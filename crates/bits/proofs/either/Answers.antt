@@ -1,0 +1,15 @@
+-- `bits::either` meets its contract, by those of its callees.
+use borrow.Author.Rules.{rules}
+use Rattle.bits.proofs.either.Goals as goal
+
+pub or-requires : goal.or-requires
+or-requires c = search rules
+
+pub or-requires-2 : goal.or-requires-2
+or-requires-2 c = search rules
+
+pub or-requires-3 : goal.or-requires-3
+or-requires-3 c = search rules
+
+pub returns : goal.returns
+returns c = rw (c.or.ensures, c.or-2.ensures, c.or-3.ensures)
