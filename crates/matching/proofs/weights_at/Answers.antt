@@ -21,8 +21,7 @@ use Rattle.matching.specs.MatchingInput.{OperatedInput, FactorsInput}
 use Rattle.matching.proofs.Bits.{kept, Number, fits, read, product}
 use Rattle.matching.proofs.Parts.{parts_within}
 use Rattle.matching.proofs.Weighing.{factor_within, group_below}
-use Rattle.matching.proofs.weights_at.Statement.{statement}
-use Rattle.matching.proofs.weights_at.Tie as tie
+use Rattle.matching.proofs.weights_at.Goals as goal
 
 -- ---- three literals that are samples, by a test that computes
 
@@ -56,51 +55,46 @@ module _ {v : Setting} {ks : List ℤ} (a : FactorsInput v ks) {z : ℕ} (l : z 
 
 -- ---- the needs
 
-end-of-requires : tie.Need-end-of-requires
-end-of-requires c κs = search rules
+pub end_of-e-requires : goal.end_of-e-requires
+end_of-e-requires c = search rules
 
-mul-k : tie.Need-overflow-mul-k
-mul-k c = search rules
+pub offset_bounds-ks-z : goal.offset_bounds-ks-z
+offset_bounds-ks-z c = search rules
 
-array-copy-out-k : tie.Need-array-copy-out-k
-array-copy-out-k c = search rules
+pub bounds-ks-z : goal.bounds-ks-z
+bounds-ks-z c = search rules
 
-operated-requires : tie.Need-operated-requires
-operated-requires c κs = let e = c.before.before in let p = e.before.requires in samples (group p.0 p.1 e.end_of_lem.ensures) _ tt
+pub operated-requires : goal.operated-requires
+operated-requires c = let e = c in let p = e.requires in samples (group p.0 p.1 e.end_of-e.ensures) _ tt
 
-mul-own : tie.Need-overflow-mul-own
-mul-own c = let e = c.before.before.before in let p = e.before.requires in fits (weight p.0 p.1 e.end_of_lem.ensures _ c.operated.ensures tt)
+pub overflow_mul-own : goal.overflow_mul-own
+overflow_mul-own c = let e = c in let p = e.requires in fits (weight p.0 p.1 e.end_of-e.ensures _ c.operated.ensures tt)
 
-operated-requires-2 : tie.Need-operated-requires-2
-operated-requires-2 c κs = let e = c.before.before.before in let p = e.before.requires in samples (group p.0 p.1 e.end_of_lem.ensures) _ tt
+pub operated-requires-2 : goal.operated-requires-2
+operated-requires-2 c = let e = c in let p = e.requires in samples (group p.0 p.1 e.end_of-e.ensures) _ tt
 
-mul_next : tie.Need-overflow-mul-next
-mul_next c =
-    let e = c.before.before.before.before in
-    let p = e.before.requires in
-    fits (weight p.0 p.1 e.end_of_lem.ensures _ c.operated2.ensures tt)
+pub overflow_mul-next : goal.overflow_mul-next
+overflow_mul-next c =
+    let e = c in
+    let p = e.requires in
+    fits (weight p.0 p.1 e.end_of-e.ensures _ c.operated-2.ensures tt)
 
-operated-requires-3 : tie.Need-operated-requires-3
-operated-requires-3 c κs = let e = c.before.before.before.before in let p = e.before.requires in samples (group p.0 p.1 e.end_of_lem.ensures) _ tt
+pub operated-requires-3 : goal.operated-requires-3
+operated-requires-3 c = let e = c in let p = e.requires in samples (group p.0 p.1 e.end_of-e.ensures) _ tt
 
-mul-before : tie.Need-overflow-mul-before
-mul-before c =
-    let e = c.before.before.before.before.before in
-    let p = e.before.requires in
-    fits (weight p.0 p.1 e.end_of_lem.ensures _ c.operated3.ensures tt)
+pub overflow_mul-before : goal.overflow_mul-before
+overflow_mul-before c =
+    let e = c in
+    let p = e.requires in
+    fits (weight p.0 p.1 e.end_of-e.ensures _ c.operated-3.ensures tt)
 
-returns : tie.Need-returns
+pub returns : goal.returns
 unfolding weights_at
 returns c =
-    let e = c.before.before.before.before.before in
-    let p = e.before.requires in
+    let e = c in
+    let p = e.requires in
     rw (
-      read (weight p.0 p.1 e.end_of_lem.ensures _ c.before.before.operated.ensures tt),
-      read (weight p.0 p.1 e.end_of_lem.ensures _ c.before.operated2.ensures tt),
-      read (weight p.0 p.1 e.end_of_lem.ensures _ c.operated3.ensures tt),
+      read (weight p.0 p.1 e.end_of-e.ensures _ c.operated.ensures tt),
+      read (weight p.0 p.1 e.end_of-e.ensures _ c.operated-2.ensures tt),
+      read (weight p.0 p.1 e.end_of-e.ensures _ c.operated-3.ensures tt),
     )
-
-pub weights-at-spec : {M : Type 1} → statement M
-weights-at-spec =
-    tie.close
-    (tie.spec end-of-requires mul-k array-copy-out-k operated-requires mul-own operated-requires-2 mul_next operated-requires-3 mul-before returns)
