@@ -20,19 +20,18 @@ use Rattle.measuring.specs.Ends.{MeasuresEnds}
 use Rattle.overcurrent.specs.Ends.{largest_in}
 use Rattle.overcurrent.specs.Watching.{largest, backup_by}
 use Rattle.overcurrent.proofs.BackupLaws.{after_off, after_same}
-use Rattle.overcurrent.proofs.watching.measured.Statement.{statement}
-use Rattle.overcurrent.proofs.watching.measured.Tie as tie
+use Rattle.overcurrent.proofs.watching.measured.Goals as goal
 
-measure-ends-requires : tie.Need-measure-ends-requires
-measure-ends-requires c κs = search rules
+pub measure_ends-m-requires : goal.measure_ends-m-requires
+measure_ends-m-requires c = search rules
 
 -- ---- the curve is 0
 
-returns : tie.Need-returns
+pub returns-then-o-eq0 : goal.returns-then-o-eq0
 unfolding backup_by
-returns c =
-    let m = c.before.before.before in
-    record { readings = m.measure-ends.ensures.readings; backup = sym (after_off _ _ _ _ _ (eq-eqb _ _ c.if1.true)) }
+returns-then-o-eq0 c =
+    let m = c in
+    record { readings = m.measure_ends-m.ensures.readings; backup = sym (after_off _ _ _ _ _ (eq-eqb _ _ c.if-o-eq0.true)) }
 
 -- ---- it is not
 
@@ -45,24 +44,21 @@ module _ {v : Setting} {win : List ℤ} {asked : Bool} {r : WithEnds} (m : Measu
       first : get_or r.amplitudes (3 * z) 0 ≡ amplitude 1 (series win z sys_a)
       first = subst (λ (i : ℕ). get_or r.amplitudes i 0 ≡ amplitude 1 (series win z sys_a)) (omega arith) (m.amplitudes t z l sys_a)
 
-backup-after-requires : tie.Need-backup-after-requires
-backup-after-requires c κs =
-    let m = c.before.before.before.before in
-    let start = m.before.before.before in
-    let on : TimersOn start.args.v.overcurrent = start.requires.on (ne_eqb _ _ c.before.if1.false) in
-    record { on = on.some; pickup = omega (arith, on.pickup); small = m.measure-ends.ensures.small; sums = start.requires.sums }
+pub backup_after-requires : goal.backup_after-requires
+backup_after-requires c =
+    let m = c in
+    let start = m in
+    let on : TimersOn start.args.v.overcurrent = start.requires.on (ne_eqb _ _ c.if-o-eq0.false) in
+    record { on = on.some; pickup = omega (arith, on.pickup); small = m.measure_ends-m.ensures.small; sums = start.requires.sums }
 
-returns-2 : tie.Need-returns-2
+pub returns : goal.returns
 unfolding backup_by
-returns-2 c =
-    let other = c.before.before in
-    let m = other.before.before.before in
-    let curve = m.before.before.before.args.v.overcurrent.curve in
-    let asked : T (not (eqb curve 0)) = rw (ne_eqb curve 0 other.if1.false) tt in
+returns c =
+    let other = c in
+    let m = other in
+    let curve = m.args.v.overcurrent.curve in
+    let asked : T (not (eqb curve 0)) = rw (ne_eqb curve 0 other.if-o-eq0.false) tt in
     record {
-      readings = m.measure-ends.ensures.readings;
-      backup = c.backup-after.ensures ∙ after_same _ _ _ _ _ _ (largest_at m.measure-ends.ensures asked);
+      readings = m.measure_ends-m.ensures.readings;
+      backup = c.backup_after.ensures ∙ after_same _ _ _ _ _ _ (largest_at m.measure_ends-m.ensures asked);
     }
-
-pub measured-spec : {M : Type 1} → statement M
-measured-spec = tie.close (tie.spec measure-ends-requires returns backup-after-requires returns-2)
