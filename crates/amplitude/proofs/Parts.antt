@@ -7,7 +7,6 @@ use native.Mathlib.Omega.{arith}
 use lib.Dec.{T}
 use lib.IntN.{ℤ, pos, negsuc, neg_ℤ, ◌+ℤ◌, ◌*ℤ◌}
 use Rattle.integer.specs.Within.{eq_z}
-use Rattle.integer.specs.Sum.{sum}
 use Rattle.integer.proofs.Reading.{ints}
 use Rattle.integer.proofs.Laws.{*ℤ-assoc, +ℤ-*ℤ, eq_z→≡}
 use Rattle.integer.proofs.SumLaws.{sum_same, sum-+, sum_times}

@@ -14,8 +14,8 @@ use Rattle.lists.proofs.Fill.{place}
 use Rattle.matching.specs.Matching.{Three, three, operation, sum3, less_zero, operated}
 use Rattle.matching.specs.Bank.{line_current, gained, ideal}
 use Rattle.matching.specs.Weights.{own, next, before, parts}
+
 -- the worked numbers, which are checked before what rests on the definitions
-use Rattle.matching.specs.Numbers as numbers
 
 -- ---- sums of three products
 

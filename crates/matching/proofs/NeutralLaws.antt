@@ -6,14 +6,14 @@ use mathlib.Core.List.{List}
 use Prim.Native.Nat.{ℕ, ◌*◌, ◌<◌}
 use native.Mathlib.Nat.{mul-pos}
 use native.Mathlib.Omega.{arith}
-use lib.Dec.{T, lit≤}
-use lib.IntN.{ℤ, pos, ◌+ℤ◌, ◌*ℤ◌, ◌-ℤ◌}
+use lib.Dec.{lit≤}
+use lib.IntN.{ℤ, pos, ◌+ℤ◌, ◌*ℤ◌}
 use Rattle.integer.specs.Within.{◌within◌}
 use Rattle.integer.specs.Nearest.{Near}
 use Rattle.integer.proofs.Reading.{ints, linear, ◌⇒◌}
 use Rattle.integer.proofs.Laws.{ring, within-≤, within-+, within_is, times_within, cancel_times}
 use Rattle.setting.specs.declared.Setting.{Setting}
-use Rattle.setting.specs.Values.{end_of, factor_top, factor_under, startable}
+use Rattle.setting.specs.Values.{end_of, factor_top, factor_under}
 use Rattle.setting.proofs.LimitLaws.{startable_is}
 use Rattle.matching.specs.Matching.{Three, three, Quotient, even, sum3}
 use Rattle.matching.specs.Sets.{sys_a, sys_b, sys_c, from_next, seen, phases, filtered}

@@ -22,7 +22,7 @@ use Rattle.setting.proofs.LimitLaws.{startable_is}
 use Rattle.matching.specs.declared.Trio.{Trio}
 use Rattle.matching.specs.Matching.{Three, even, operated, matched}
 use Rattle.matching.specs.Sets.{System, sys_a, sys_b, sys_c, from_next, seen, phases, filtered, matched_at, place_of, trio_at}
-use Rattle.matching.specs.Weights.{own, next, before, parts, weight_of, weights_of, weighed, weighed_at, weighed_trio}
+use Rattle.matching.specs.Weights.{parts, weight_of, weights_of, weighed, weighed_at, weighed_trio}
 use Rattle.matching.specs.MatchingInput.{Most, WeighedInput, EndInput, SetInput}
 use Rattle.matching.proofs.Forms.{◌·◌, form_of, linear_times, linear_parts}
 use Rattle.matching.proofs.Rows.{matching, group_row}

@@ -9,7 +9,7 @@ use lib.Dec.{T, leb, ltb→lt}
 use borrow.Author.Tests.{le-leb, lt-leb, le-ltb, lt-ltb, ltb-false}
 use Rattle.lists.proofs.TestLaws.{split, pair, is_true, is_false}
 use Rattle.refusal.specs.declared.Refusal.{Refusal}
-use Rattle.refusal.specs.Refusals.{told_of, number_of, Outcome, declines, by_outcome, ◌when◌, alone, done, first_refusal}
+use Rattle.refusal.specs.Refusals.{told_of, number_of, Outcome, declines, by_outcome, alone, done, first_refusal}
 use Rattle.refusal.proofs.Stops.{none_gives}
 use Rattle.setting.specs.declared.Setting.{Setting}
 use Rattle.setting.specs.Values.{between, fields, all_right, lowest, factor_high, factors_low, value_rows, store_rows, storable, falling, start_rows, startable}
