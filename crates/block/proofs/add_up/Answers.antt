@@ -17,29 +17,11 @@ pub loop-j-init : goal.loop-j-init
 unfolding total weighed
 loop-j-init c = search rules
 
-pub offset_bounds-sums-j : goal.offset_bounds-sums-j
-offset_bounds-sums-j c = search rules
-
-pub bounds-sums-j : goal.bounds-sums-j
-bounds-sums-j c = search rules
-
 sum_fits : (c : In-loop-j) → Fits w16 (get_or c.args.c.sums c.loop-j.j 0)
 sum_fits c = search rules
 
 row_fits : (c : In-loop-j) → Fits w16 (get_or c.args.c.rows c.loop-j.j 0)
 row_fits c = search rules
-
-pub overflow_cast-a : goal.overflow_cast-a
-overflow_cast-a c = search rules
-
-pub offset_bounds-rows-j : goal.offset_bounds-rows-j
-offset_bounds-rows-j c = search rules
-
-pub bounds-rows-j : goal.bounds-rows-j
-bounds-rows-j c = search rules
-
-pub overflow_cast-b : goal.overflow_cast-b
-overflow_cast-b c = search rules
 
 pub overflow_mul-b : goal.overflow_mul-b
 overflow_mul-b c = omega (arith, row_fits c)
@@ -49,12 +31,6 @@ overflow_add-b c = omega (arith, sum_fits c, row_fits c)
 
 pub overflow_add-b-in-loop-j : goal.overflow_add-b-in-loop-j
 overflow_add-b-in-loop-j c = omega (arith, sum_fits c, row_fits c)
-
-pub overflow_add-j : goal.overflow_add-j
-overflow_add-j c = search rules
-
-pub loop-j-smaller : goal.loop-j-smaller
-loop-j-smaller c = search rules
 
 pub loop-j-preserved : goal.loop-j-preserved
 loop-j-preserved c =
@@ -69,12 +45,6 @@ loop-j-preserved c =
       omega (arith, total_next sums l.loop-j.j in-sums),
       omega (arith, weighed_next sums l.loop-j.j in-sums, total_next rows l.loop-j.j in_rows),
     )
-
-pub overflow_cast-result : goal.overflow_cast-result
-overflow_cast-result c = search rules
-
-pub overflow_cast-result-2 : goal.overflow_cast-result-2
-overflow_cast-result-2 c = search rules
 
 pub returns : goal.returns
 returns c =

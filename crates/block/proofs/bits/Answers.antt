@@ -25,8 +25,5 @@ overflow_add-result c = rw (back (overflow_cast-result c), back c.ranges.x) (sim
 pub overflow_cast-result-2 : goal.overflow_cast-result-2
 overflow_cast-result-2 c = rw (back (overflow_add-result c), back (overflow_cast-result c), back c.ranges.x) (simp ints (omega arithℤ))
 
-pub overflow_cast-result-3 : goal.overflow_cast-result-3
-overflow_cast-result-3 c = search rules
-
 pub returns : goal.returns
 returns c = rw (back (overflow_add-result c), back (overflow_cast-result c), back c.ranges.x) (remainder c.args.x c.ranges.x)

@@ -8,50 +8,11 @@ use Rattle.block.proofs.by_columns.Goals as goal
 pub loop-start-init : goal.loop-start-init
 loop-start-init c = (search rules, added_none c.args.s.now)
 
-pub loop-j-init : goal.loop-j-init
-loop-j-init c = search rules
-
-pub overflow_add-i : goal.overflow_add-i
-overflow_add-i c = search rules
-
-pub offset_bounds-sums-j : goal.offset_bounds-sums-j
-offset_bounds-sums-j c = search rules
-
-pub bounds-sums-j : goal.bounds-sums-j
-bounds-sums-j c = search rules
-
-pub offset_bounds-rows-j : goal.offset_bounds-rows-j
-offset_bounds-rows-j c = search rules
-
-pub bounds-rows-j : goal.bounds-rows-j
-bounds-rows-j c = search rules
-
 pub overflow_add-rows : goal.overflow_add-rows
 overflow_add-rows c = let h = c.loop-j.invariant.1 in omega (arith, h.row, h.small c.loop-j.j, h.small' c.loop-j.j)
 
-pub bounds-rows-j-in-loop-j : goal.bounds-rows-j-in-loop-j
-bounds-rows-j-in-loop-j c = search rules
-
-pub bounds-s-i : goal.bounds-s-i
-bounds-s-i c = search rules
-
-pub wide-requires : goal.wide-requires
-wide-requires c = search rules
-
 pub overflow_add-sums : goal.overflow_add-sums
 overflow_add-sums c = let h = c.loop-j.invariant.1 in omega (arith, h.row, h.small c.loop-j.j)
-
-pub offset_bounds-sums-j-in-loop-j : goal.offset_bounds-sums-j-in-loop-j
-offset_bounds-sums-j-in-loop-j c = search rules
-
-pub bounds-sums-j-in-loop-j : goal.bounds-sums-j-in-loop-j
-bounds-sums-j-in-loop-j c = search rules
-
-pub overflow_add-j : goal.overflow_add-j
-overflow_add-j c = search rules
-
-pub loop-j-smaller : goal.loop-j-smaller
-loop-j-smaller c = search rules
 
 pub loop-j-preserved : goal.loop-j-preserved
 loop-j-preserved c =
@@ -65,9 +26,6 @@ loop-j-preserved c =
           c.wide.ensures.is
           c.wide.ensures.small,
     )
-
-pub overflow_add-start : goal.overflow_add-start
-overflow_add-start c = search rules
 
 pub loop-start-preserved : goal.loop-start-preserved
 loop-start-preserved c = let h = c.loop-j.invariant.1 in (omega (arith, h.row), added_row h (omega arith))

@@ -8,15 +8,6 @@ use lib.Seq.{length-take-le, sets-eq}
 use Rattle.block.specs.Block.{sums_of}
 use Rattle.block.proofs.seal.Goals as goal
 
-pub slice_bounds-b-end : goal.slice_bounds-b-end
-slice_bounds-b-end c = search rules
-
-pub bounds-t-510 : goal.bounds-t-510
-bounds-t-510 c = search rules
-
-pub bounds-t-511 : goal.bounds-t-511
-bounds-t-511 c = search rules
-
 pub slice_bounds-check_sums-end : goal.slice_bounds-check_sums-end
 slice_bounds-check_sums-end c =
     let h : length c.args.b ≡ 512 = search rules in

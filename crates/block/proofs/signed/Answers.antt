@@ -1,5 +1,4 @@
 -- `block::signed` meets its contract: from 32,768 on, 65,535 − n fits 15 bits, and −1 less it is n − 65,536.
-use borrow.Author.Rules.{rules}
 use borrow.Author.Tests.{lt-ltb, le-ltb}
 use mathlib.Core.Path.{refl}
 use Prim.Native.Nat.{◌-◌}
@@ -11,15 +10,6 @@ use Rattle.integer.proofs.Reading.{ints}
 use Rattle.integer.proofs.Machine.{back_within, back}
 use Rattle.block.proofs.signed.Goals as goal
 use Rattle.block.proofs.signed.Goals.{Else-n-lt32768}
-
-pub overflow_cast-result : goal.overflow_cast-result
-overflow_cast-result c = search rules
-
-pub overflow_sub-result : goal.overflow_sub-result
-overflow_sub-result c = search rules
-
-pub overflow_cast-result-else-n-lt32768 : goal.overflow_cast-result-else-n-lt32768
-overflow_cast-result-else-n-lt32768 c = search rules
 
 small : (c : Else-n-lt32768) → pos (65535 - c.args.n) within 32767
 small c = simp ints (omega arith)

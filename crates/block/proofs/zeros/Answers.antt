@@ -25,21 +25,6 @@ pub loop-at-init : goal.loop-at-init
 unfolding zeros
 loop-at-init c = search rules
 
-pub bounds-s-at : goal.bounds-s-at
-bounds-s-at c = search rules
-
-pub wider-sum-requires : goal.wider-sum-requires
-wider-sum-requires c = search rules
-
-pub overflow_add-sum : goal.overflow_add-sum
-overflow_add-sum c = search rules
-
-pub overflow_add-at : goal.overflow_add-at
-overflow_add-at c = search rules
-
-pub loop-at-smaller : goal.loop-at-smaller
-loop-at-smaller c = search rules
-
 pub loop-at-preserved : goal.loop-at-preserved
 unfolding zeros
 loop-at-preserved c =

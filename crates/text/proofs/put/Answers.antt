@@ -1,5 +1,4 @@
 -- `text::put` meets its contract. The loop's invariant: the first i bytes of s are pasted at the place.
-use borrow.Author.Rules.{rules}
 use mathlib.Core.Path.{◌≡◌, refl, ap, ◌∙◌}
 use mathlib.Core.List.{List}
 use Prim.Native.Nat.{ℕ, ◌+◌}
@@ -12,21 +11,6 @@ use Rattle.text.proofs.put.Goals as goal
 pub loop-i-init : goal.loop-i-init
 loop-i-init c = (refl, omega arith, paste-zero c.args.buffer.now c.args.at c.args.s.now)
 
-pub bounds-s-i : goal.bounds-s-i
-bounds-s-i c = search rules
-
-pub overflow_add-buffer : goal.overflow_add-buffer
-overflow_add-buffer c = search rules
-
-pub bounds-buffer-at : goal.bounds-buffer-at
-bounds-buffer-at c = search rules
-
-pub overflow_add-i : goal.overflow_add-i
-overflow_add-i c = search rules
-
-pub loop-i-smaller : goal.loop-i-smaller
-loop-i-smaller c = search rules
-
 pub loop-i-preserved : goal.loop-i-preserved
 loop-i-preserved c =
     let at = c.args in
@@ -37,9 +21,6 @@ loop-i-preserved c =
           ∙ paste-suc at.buffer.now at.at at.s.now now.i 0 (omega arith) (omega arith)
           ∙ rw add-one,
     )
-
-pub overflow_add-result : goal.overflow_add-result
-overflow_add-result c = search rules
 
 pub returns : goal.returns
 returns c =

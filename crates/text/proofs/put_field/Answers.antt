@@ -1,5 +1,4 @@
 -- `text::put_field` meets its contract: the space and the number, put one after the other.
-use borrow.Author.Rules.{rules}
 use Rattle.lists.specs.Lists.{up_to}
 use Rattle.text.specs.Text.{ascii, decimal}
 use Rattle.text.proofs.Putting.{room_first, room_after, puts_both}
@@ -14,9 +13,6 @@ unfolding ascii up_to
 put_number-requires c =
     let start = c in
     room_after (decimal _) start.requires c.put-after.ensures
-
-pub shape_of-buffer : goal.shape_of-buffer
-shape_of-buffer c = search rules
 
 pub returns : goal.returns
 unfolding ascii up_to
