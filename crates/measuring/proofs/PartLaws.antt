@@ -7,7 +7,7 @@ use Prim.Native.Nat.{ℕ, zero, suc, ◌+◌, ◌*◌, ◌≤◌, ◌<◌}
 use native.Mathlib.Decide.{ℕ_discrete}
 use native.Mathlib.Omega.{arith}
 use lib.Dec.{T, leb, ltb, leb→le, ltb→lt, nltb→le}
-use lib.IntN.{ℤ, pos, neg_ℤ, nat_abs, ◌+ℤ◌, ◌*ℤ◌, ◌-ℤ◌, *ℤ_comm}
+use lib.IntN.{ℤ, pos, neg_ℤ, ◌+ℤ◌, ◌*ℤ◌, ◌-ℤ◌, *ℤ_comm}
 use lib.ListN.{get_or, set, length-set}
 use lib.Seq.{get_or-set_same, get_or-set_other}
 use mir.Syntax.{w32}
@@ -18,8 +18,8 @@ use Rattle.integer.proofs.Reading.{ints}
 use Rattle.integer.proofs.Laws.{within-≤, within--, nat_abs_neg, *ℤ-+ℤ}
 use Rattle.integer.proofs.Machine.{fits, back_within}
 use Rattle.integer.proofs.SumLaws.{sum_same, sum-+, sum--, sum_times, sum_next, sum_within_lem, weight, weighted}
-use Rattle.lists.specs.Tests.{each, every}
-use Rattle.lists.proofs.TestLaws.{test_each, each_get, every_at}
+use Rattle.lists.specs.Tests.{every}
+use Rattle.lists.proofs.TestLaws.{every_at}
 use Rattle.matching.specs.Sets.{index, system}
 use Rattle.amplitude.specs.Amplitude.{amplitude}
 use Rattle.amplitude.specs.Parts.{shares, share, part, joined, of_sums, PartsInput, OfParts}

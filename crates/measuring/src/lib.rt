@@ -237,7 +237,7 @@ fn common(v: Setting, a: Held, b: Held, c: Held) -> bool
 // What is measured of a system, from its currents, whether it has harmonics, and whether all are blocked.
 fn system_reading(v: Setting, c: Currents, own: bool, any: bool) -> Reading
     requires { v.thresholds.basic ≤ 2 * v.thresholds.knee }
-    ensures { result ≡ record { d = c.d; result = c.r; h2 = c.h2; h5 = c.h5; start = starts_of v c.d c.r; blocked = own || any } }
+    ensures { result ≡ record { d = c.d; r = c.r; h2 = c.h2; h5 = c.h5; start = starts_of v c.d c.r; blocked = own || any } }
 {
     Reading {
         d: c.d,

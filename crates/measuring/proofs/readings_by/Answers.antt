@@ -12,29 +12,25 @@ use Rattle.characteristic.specs.declared.Held.{Held}
 use Rattle.characteristic.specs.Characteristic.{starts, held_by, common_on}
 use Rattle.measuring.specs.declared.Reading.{Reading}
 use Rattle.measuring.specs.Measuring.{harmonics, holding, blocked, currents_of, reading_of, readings_of}
-use Rattle.measuring.proofs.readings_by.Statement.{statement}
-use Rattle.measuring.proofs.readings_by.Tie as tie
+use Rattle.measuring.proofs.readings_by.Goals as goal
 
-blocking-requires : tie.Need-blocking-requires
-blocking-requires c κs = search rules
+pub blocking-by_a-requires : goal.blocking-by_a-requires
+blocking-by_a-requires c = search rules
 
-blocking-requires-2 : tie.Need-blocking-requires-2
-blocking-requires-2 c κs = search rules
+pub blocking-by_b-requires : goal.blocking-by_b-requires
+blocking-by_b-requires c = search rules
 
-blocking-requires-3 : tie.Need-blocking-requires-3
-blocking-requires-3 c κs = search rules
+pub blocking-by_c-requires : goal.blocking-by_c-requires
+blocking-by_c-requires c = search rules
 
-common-requires : tie.Need-common-requires
-common-requires c κs = search rules
+pub common-any-requires : goal.common-any-requires
+common-any-requires c = search rules
 
-system-reading-requires : tie.Need-system-reading-requires
-system-reading-requires c κs = search rules
+pub system_reading-requires : goal.system_reading-requires
+system_reading-requires c = search rules
 
-system-reading-requires-2 : tie.Need-system-reading-requires-2
-system-reading-requires-2 c κs = search rules
-
-system-reading-requires-3 : tie.Need-system-reading-requires-3
-system-reading-requires-3 c κs = search rules
+pub system_reading-requires-3 : goal.system_reading-requires-3
+system_reading-requires-3 c = search rules
 
 -- a system's currents are those of the definitions, so what its harmonics hold back and its reading are
 module _ (v : Setting) (win : List ℤ) (l : System) {cur : Currents} (e : cur ≡ currents_of v.ends win l) where
@@ -57,29 +53,23 @@ blocked_is : (v : Setting) (win : List ℤ) {a b c any : Bool} → a ≡ holding
 unfolding blocked
 blocked_is v win by-a by-b by-c e l own h = rw (h, e, by-a, by-b, by-c)
 
-returns : tie.Need-returns
+pub returns : goal.returns
 unfolding readings_of
 returns c win a b d =
-    let all = c.before.before.before in
-    let by-c = all.before in
-    let by-b = by-c.before in
-    let by-a = by-b.before in
-    let v = by-a.before.args.v in
+    let all = c in
+    let by-c = all in
+    let by-b = by-c in
+    let by-a = by-b in
+    let v = by-a.args.v in
     let is =
     blocked_is v win
-    (others_is v win sys_a a by-a.blocking.ensures)
-    (others_is v win sys_b b by-b.blocking2.ensures)
-    (others_is v win sys_c d by-c.blocking3.ensures)
-    all.common.ensures
+    (others_is v win sys_a a by-a.blocking-by_a.ensures)
+    (others_is v win sys_b b by-b.blocking-by_b.ensures)
+    (others_is v win sys_c d by-c.blocking-by_c.ensures)
+    all.common-any.ensures
     in
     rw (
-      reading_is v win sys_a a (is sys_a _ (own_is v win sys_a a by-a.blocking.ensures)) c.before.before.system-reading.ensures,
-      reading_is v win sys_b b (is sys_b _ (own_is v win sys_b b by-b.blocking2.ensures)) c.before.system-reading2.ensures,
-      reading_is v win sys_c d (is sys_c _ (own_is v win sys_c d by-c.blocking3.ensures)) c.system-reading3.ensures,
+      reading_is v win sys_a a (is sys_a _ (own_is v win sys_a a by-a.blocking-by_a.ensures)) c.system_reading.ensures,
+      reading_is v win sys_b b (is sys_b _ (own_is v win sys_b b by-b.blocking-by_b.ensures)) c.system_reading-2.ensures,
+      reading_is v win sys_c d (is sys_c _ (own_is v win sys_c d by-c.blocking-by_c.ensures)) c.system_reading-3.ensures,
     )
-
-pub readings-by-spec : {M : Type 1} → statement M
-readings-by-spec =
-    tie.close
-    (tie.spec blocking-requires blocking-requires-2 blocking-requires-3 common-requires system-reading-requires system-reading-requires-2
-    system-reading-requires-3 returns)
