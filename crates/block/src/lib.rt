@@ -115,7 +115,7 @@ pub fn place(buffer: &mut [u8], b: [u8; 512])
     requires { 512 ≤ length buffer.old }
     ensures { buffer.new ≡ buffer_with buffer.old b }
 {
-    bytes::copy(&b[0..512], buffer);
+    buffer[..512].copy_from_slice(&b[0..512]);
 }
 
 // Whether every byte is zero, by their sum: a loop with no way out, which the compiler takes many bytes at a time.

@@ -1,0 +1,64 @@
+-- `setting_block::reader::read_setting` meets its contract: it tests the first three rows in their order, and the verdict on the values tells the others.
+use borrow.Author.Tests.{eq-eqb, ne_eqb}
+use mathlib.Core.Path.{◌≡◌, ap}
+use mathlib.Core.Bool.{not}
+use lib.ListN.{take}
+use Rattle.lists.specs.Tests.{Each, none, ◌&◌}
+use Rattle.refusal.specs.declared.Refusal.{Refusal}
+use Rattle.refusal.specs.declared.Verdict.{Verdict}
+use Rattle.refusal.proofs.Stops.{Passed, here, past}
+use Rattle.setting_block.specs.Layout.{spares}
+use Rattle.setting_block.specs.Calls.{read_rows, Reads}
+use Rattle.setting_block.proofs.ReaderCases.{answer, refused, judged}
+use Rattle.setting_block.proofs.reader.read_setting.Goals as goal
+use Rattle.setting_block.proofs.reader.read_setting.Goals.{After-verdict_beside-judged, Else-not-checked, Else-not-marked, Else-s-ne512}
+
+-- the rows passed after each test
+
+passed_1 : (c : Else-s-ne512) → Each Passed (take 1 (read_rows c.args.s.now))
+unfolding read_rows
+passed_1 c = ap not (eq-eqb _ _ c.if-s-ne512.false) & none
+
+passed_2 : (c : Else-not-checked) → Each Passed (take 2 (read_rows c.args.s.now))
+unfolding read_rows
+passed_2 c = ap not (eq-eqb _ _ c.if-s-ne512.false) & rw (← c.checked.ensures) (ap not c.if-not-checked.false) & none
+
+passed_3 : (c : Else-not-marked) → Each Passed (take 3 (read_rows c.args.s.now))
+unfolding read_rows
+passed_3 c =
+    ap not (eq-eqb _ _ c.if-s-ne512.false)
+    & rw (← c.checked.ensures) (ap not c.if-not-checked.false)
+    & rw (← c.marked.ensures) (ap not c.if-not-marked.false)
+    & none
+
+pub returns-then-not-checked : goal.returns-then-not-checked
+unfolding read_rows
+returns-then-not-checked c =
+    refused c.args.s.now Refusal.Check
+    (past 1 _ (passed_1 (goal.at.returns-then-not-checked c).Else-s-ne512) (here (rw (← c.checked.ensures) (ap not c.if-not-checked.true))))
+
+pub returns-then-s-ne512 : goal.returns-then-s-ne512
+unfolding read_rows
+returns-then-s-ne512 c = refused c.args.s.now Refusal.Length (here (ap not (ne_eqb _ _ c.if-s-ne512.true)))
+
+pub returns-then-not-marked : goal.returns-then-not-marked
+unfolding read_rows
+returns-then-not-marked c = refused c.args.s.now Refusal.Mark (past 2 _ (passed_2 (goal.at.returns-then-not-marked c).Else-not-checked) (here (rw (← c.marked.ensures) (ap not c.if-not-marked.true))))
+
+-- the answer by the verdict
+-- the answer by the verdict
+answered : (c : After-verdict_beside-judged) → Each Passed (take 3 (read_rows c.args.s.now)) → (r : Verdict) → c.verdict_beside-judged.result ≡ r
+    → Reads c.args.s.now (answer c.setting_at-v.result r)
+answered c p r e =
+    rw c.setting_at-v.ensures
+    (judged _ p r (rw (c.setting_at-v.ensures, e) at (c.verdict_beside-judged.ensures (spares _) c.spare_fault.ensures)))
+
+pub returns-in-Accepted : goal.returns-in-Accepted
+returns-in-Accepted c =
+    let at = goal.at.returns-in-Accepted c in
+    answered at.After-verdict_beside-judged (passed_3 at.Else-not-marked) _ c.in-Accepted.is
+
+pub returns-in-Refused : goal.returns-in-Refused
+returns-in-Refused c =
+    let at = goal.at.returns-in-Refused c in
+    answered at.After-verdict_beside-judged (passed_3 at.Else-not-marked) _ c.in-Refused.is

@@ -1,0 +1,35 @@
+-- `setting_block::reader::setting_at` meets its contract: each field is what the call that reads it ensures.
+use lib.ListN.{get_or}
+use Rattle.setting_block.specs.Layout.{setting_at}
+use Rattle.setting_block.proofs.reader.setting_at.Goals as goal
+
+pub returns : goal.returns
+unfolding setting_at
+returns c =
+    let pickup = c in
+    let fifth = pickup in
+    let high = fifth in
+    let e3 = high in
+    let s = e3.args.s.now in
+    λ i.
+    record {
+      ends = get_or s 4 0;
+      flags = get_or s 5 0;
+      confirm = get_or s 6 0;
+      power = c.u32_at.ensures i;
+      e0 = e3.end_at-e0.ensures i;
+      e1 = e3.end_at-e1.ensures i;
+      e2 = e3.end_at-e2.ensures i;
+      e3 = e3.end_at-e3.ensures i;
+      thresholds =
+          record {
+            basic = high.u16_at.ensures i;
+            high = high.u16_at-2.ensures i;
+            slope1 = fifth.u16_at-3.ensures i;
+            slope2 = fifth.u16_at-4.ensures i;
+            knee = fifth.u16_at-5.ensures i;
+            second = fifth.u16_at-6.ensures i;
+            fifth = fifth.u16_at-7.ensures i;
+          };
+      overcurrent = record { pickup = pickup.u16_at-8.ensures i; curve = get_or s 76 0 };
+    }
