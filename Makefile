@@ -1,10 +1,9 @@
 # make run      proves and builds the bench program, and runs it on a fault beyond the bank and then one inside it.
-# make test     the gate: what the documents cite, that each promise has a must-fail edit and each edit still applies, the second program's own checks, the files
-#               that it makes against those stored, the C calls and the bench program against it, the must-fail edits of dear crates, a wrong program
-#               across crates, and rt ci, which proves each crate, tries the must-fail edits of the others and runs each program (tests/gate). What is
-#               below is not part of it.
+# make test     the gate: rt ci, which proves each crate, tries the must-fail edits and runs each program; what the documents cite, that each edit still applies,
+#               the second program's own checks, the files that it makes against those stored, the C calls and the bench program against it, and a wrong
+#               program across crates (tests/gate). What is below is not part of it.
 # make edits NAME ..
-#               every must-fail edit of these crates, or of all, in some seconds each.
+#               every must-fail edit of these crates, or of all: those of the gate and those beside it (more-edits/).
 # make wrong    lists all must-fail edits, a line each.
 # make mutants  wrong programs drawn by chance from the source, which must be refused as well: N for each crate, by SEED.
 # make fuzz     a million blocks through the C calls against the second program, built with the address and undefined-behaviour sanitizers.
@@ -14,10 +13,10 @@ CC = gcc
 CXX = g++
 CFLAGS = -std=c11 -O2 -Wall -Wextra -Werror
 CXXFLAGS = -std=c++11 -O2 -Wall -Wextra -Werror
-HOST = target/staticlib/libhost.a
-BENCH = target/bin/bench
-CALLS = target/bin/calls
-SOURCES = crates.txt $(shell find crates -name '*.rt' -o -name '*.antt')
+HOST = crates/host/out/libhost.a
+BENCH = crates/bench/out/bench
+CALLS = crates/calls/out/calls
+SOURCES = crates.txt $(shell find crates -name out -prune -o \( -name '*.rt' -o -name '*.antt' \) -print)
 SECOND = second/relay.c second/relay.h second/draw.c second/draw.h
 N = 4
 SEED = 1
@@ -27,7 +26,7 @@ ifeq (edits,$(firstword $(MAKECMDGOALS)))
 NAMES = $(filter-out edits,$(MAKECMDGOALS))
 .PHONY: $(MAKECMDGOALS)
 edits:
-	tests/more-edits $(NAMES)
+	tests/edits $(NAMES)
 $(NAMES): edits ; @:
 else
 .PHONY: run test references applies promises second stored proved host planner bench calls slope-limit wrong mutants fuzz speed clean
@@ -81,14 +80,14 @@ build/host.so: examples/host.c include/tdp.h $(HOST)
 build/host-shared: build/host.so
 	$(CC) -o $@ $< -Wl,-rpath,'$$ORIGIN'
 
+# `rt lib` and `rt run` prove what they build, over what earlier checks kept in out/. rt ci leaves the programs too, but not the library.
 $(HOST): $(SOURCES)
-	rt staticlib host
+	cd crates/host && rt lib
+	@touch $@
 
-$(BENCH): $(SOURCES)
-	rt check bench
-
-$(CALLS): $(SOURCES)
-	rt check calls
+$(BENCH) $(CALLS): crates/%: $(SOURCES)
+	cd $(dir $(@D)) && rt run < /dev/null > /dev/null
+	@touch $@
 
 # The second program meets the numbers of documents 01 and 02, and lists of calls give the same answers turned, and struck of their page calls. Healthy
 # banks without and with neutral current keep the limits of D and start nothing, the largest D is told, and banks by wrong rules go past the limits. Faults
@@ -113,17 +112,16 @@ stored: build/numbers build/vectors build/bench
 references:
 	tests/references
 
-# The must-fail edits: those that rt ci tries, those of dear crates, which tests/edits tries in the gate, and those beside the gate.
-GATE_EDITS = $(wildcard crates/*/must-fail/*.edit crates/*/gate-edits/*.edit)
+# The must-fail edits: those that rt ci tries, and those beside the gate.
+EDITS = $(wildcard crates/*/must-fail/*.edit crates/*/more-edits/*.edit)
 
 # Every edit still applies.
 applies:
-	@awk -f tests/applies.awk $(GATE_EDITS) $(wildcard crates/*/more-edits/*.edit)
+	@awk -f tests/applies.awk $(EDITS)
 
-# Each exported call and each theorem has an edit in the gate; and what the prover said of edits, where some were tried.
+# What an edit says that it breaks is promised.
 promises:
-	@awk -f tests/promises.awk mode=src crates/*/src/*.rt mode=calls docs/CLAIMS.md mode=edits $(GATE_EDITS) \
-		mode=logs $(wildcard target/must-fail/*/*/.log)
+	@awk -f tests/promises.awk mode=src $(wildcard crates/*/src/*.rt) mode=specs $(wildcard crates/*/specs/*.antt) mode=edits $(EDITS)
 
 # What is run on the proved code.
 proved: host planner bench calls
@@ -195,5 +193,5 @@ speed: build/speed $(BENCH)
 	tests/instructions
 
 clean:
-	rm -rf build target
+	rm -rf build crates/*/out
 endif

@@ -1,5 +1,5 @@
 /* How a C host calls the engine: a setting block is made and read; a current through the bank is measured, and one into it; then blocks that are declined.
- * Each answer is shown, and held to what it must be. Build after `rt staticlib host`:  gcc -Iinclude examples/host.c target/staticlib/libhost.a */
+ * Each answer is shown, and held to what it must be. Build after `make crates/host/out/libhost.a`:  gcc -Iinclude examples/host.c crates/host/out/libhost.a */
 #include <stdio.h>
 #include <string.h>
 

@@ -60,7 +60,7 @@ END {
         old = trimmed(text[file, line[c]])
         if (once(file, old)) {
             drawn++
-            out = crate "/drawn/" drawn ".edit"
+            out = crate "/must-fail/" drawn ".edit"
             short = file
             sub(/^.*\/src\//, "src/", short)
             printf "# drawn: line %d\nfile: %s\nold: %s\nnew: %s\n", line[c], short, old, trimmed(new[c]) > out

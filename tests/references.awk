@@ -12,7 +12,7 @@ mode == "spec" && section == "Change requests" && match($0, /^\| [0-9]+ /) { car
 mode == "heads" && /^#+ / { head = tolower($0); sub(/^#+ /, "", head); gsub(/[^a-z0-9 -]/, "", head); gsub(/ /, "-", head); heads[FILENAME, head] = 1 }
 
 # what a line of .antt takes from the kit's library
-mode == "names" && /^use (mathlib|lib|mir|Prim)\./ { size = split($0, parts, /[^-A-Za-z0-9_]+/); for (i = 1; i <= size; i++) names[parts[i]] = 1 }
+mode == "names" && /^(pub )?use (Rattle\.std|mathlib|lib|Prim)\./ { size = split($0, parts, /[^-A-Za-z0-9_]+/); for (i = 1; i <= size; i++) names[parts[i]] = 1 }
 
 # the word that a line of .antt begins with, after its modifiers: what it declares or defines
 mode == "names" {
@@ -108,14 +108,14 @@ function look_word(word,    i, size, parts) {
 }
 
 # what a program makes: it is named in the Makefile
-function made(path) { return path ~ /^(build|target)\// && index(makefile, path) }
+function made(path) { return path ~ /^(build|crates\/[a-z0-9_]+\/out)\// && index(makefile, path) }
 
 # crate/edit: 1 in the gate, 2 beside it
 function edit(word,    crate, name) {
     crate = name = word
     sub(/\/.*/, "", crate)
     sub(/[^\/]*\//, "", name)
-    return there("crates/" crate "/must-fail/" name ".edit") || there("crates/" crate "/gate-edits/" name ".edit") ? 1 : there("crates/" crate "/more-edits/" name ".edit") ? 2 : 0
+    return there("crates/" crate "/must-fail/" name ".edit") ? 1 : there("crates/" crate "/more-edits/" name ".edit") ? 2 : 0
 }
 
 # names that a file is said to have, as in `A`, `B` (`crate/specs/File.antt`)
