@@ -1,6 +1,6 @@
 -- A page, and what is made of the events, worked out by hand (§ The register page); and that every page has 64 bytes.
 use Rattle.std.specs.Prelude.{◌≡◌, refl, Bool, true, false, ℕ, length, replicate}
-use mathlib.Core.List.{List, [], ◌∷◌, ◌++◌, map, flatten}
+use mathlib.Core.List.{List, [], ◌∷◌, map, flatten}
 use Rattle.bits.specs.declared.Bits.{Bits}
 use Rattle.bits.specs.Bits.{bits_of, mask_of}
 use Rattle.measuring.specs.declared.Reading.{Reading}
