@@ -8,17 +8,16 @@ use Rattle.overcurrent.specs.declared.Backup.{Backup}
 use Rattle.overcurrent.specs.Ends.{per_end}
 use Rattle.relay.specs.declared.Relay.{Relay}
 use Rattle.relay.specs.Calls.{cleared}
-use Rattle.relay.proofs.calls.cleared.Statement.{statement}
-use Rattle.relay.proofs.calls.cleared.Tie as tie
+use Rattle.relay.proofs.calls.cleared.Goals as goal
 
-untripped-requires : tie.Need-untripped-requires
-untripped-requires c κs = search rules
+pub untripped-trip-requires : goal.untripped-trip-requires
+untripped-trip-requires c = search rules
 
-untripped-requires-2 : tie.Need-untripped-requires-2
-untripped-requires-2 c κs = search rules
+pub untripped-backup-requires : goal.untripped-backup-requires
+untripped-backup-requires c = search rules
 
-renewed-requires : tie.Need-renewed-requires
-renewed-requires c κs = search rules
+pub renewed-requires : goal.renewed-requires
+renewed-requires c = search rules
 
 -- the record with parts that are clear
 of_clear : (r : Relay) {s : Relay} {t : Trip} {b : Backup} → t ≡ per_system (λ l. clear) → b ≡ per_end (λ z. idle) →
@@ -26,8 +25,5 @@ of_clear : (r : Relay) {s : Relay} {t : Trip} {b : Backup} → t ≡ per_system 
 unfolding cleared
 of_clear r e f h = h ∙ rw (e, f)
 
-returns : tie.Need-returns
-returns c = of_clear _ c.before.before.untripped.ensures c.before.untripped2.ensures c.renewed.ensures
-
-pub cleared-spec : {M : Type 1} → statement M
-cleared-spec = tie.close (tie.spec untripped-requires untripped-requires-2 renewed-requires returns)
+pub returns : goal.returns
+returns c = of_clear _ c.untripped-trip.ensures c.untripped-backup.ensures c.renewed.ensures
