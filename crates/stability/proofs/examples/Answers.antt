@@ -1,11 +1,7 @@
 -- `stability::examples` states what Through and Demand3 prove.
 use Rattle.stability.proofs.Through.{through_fault, earth_faults}
 use Rattle.stability.proofs.Demand3.{fault_unhealthy}
-use Rattle.stability.proofs.examples.Statement.{statement}
-use Rattle.stability.proofs.examples.Tie as tie
+use Rattle.stability.proofs.examples.Goals as goal
 
-returns : tie.Need-returns
+pub returns : goal.returns
 returns c = (through_fault, earth_faults, fault_unhealthy)
-
-pub examples-spec : {M : Type 1} → statement M
-examples-spec = tie.close (tie.spec returns)
