@@ -5,7 +5,6 @@ use native.Mathlib.Nat.{le_refl}
 use native.Mathlib.Omega.{arith}
 use Rattle.setting.proofs.LimitLaws.{startable_is}
 use Rattle.amplitude.proofs.PeakLaws.{peak_small}
-use Rattle.characteristic.specs.Characteristic.{starts}
 use Rattle.characteristic.specs.OneEnd.{StartsAboveP}
 use Rattle.characteristic.proofs.OneEndLaws.{starts_above_P}
 use Rattle.measuring.specs.Measuring.{differential}

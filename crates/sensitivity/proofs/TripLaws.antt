@@ -68,9 +68,12 @@ module _ (v : Setting) (Fault : System → List ℤ → Measure → Type 0) (sur
   sampled_now : {t : Trail} {r s : Relay} {xs : List ℤ} → Valid v r → Traced v l t r → Step v r (sample xs) s →
       MeasuredAs (Fault l s.window.values) l (sample_reply r xs) → (trailing v l t (sample xs)).counted ≡ true ∷ t.counted
   unfolding relay_now
-  sampled_now {t = t} {r = r} {xs = xs} h k (files e o) m =
-      rw (e, sym (window_now h k.filed xs), measured_counts r (window_after r xs) h.same (rw o at m))
-  sampled_now h k (declines e o) m = absurd (rw o.is at m)
+  sampled_now {t = t} {r = r} {s = s} {xs = xs} h k done m = by xs s done m
+    where
+      by : (xs : List ℤ) (s : Relay) → Step v r (sample xs) s → MeasuredAs (Fault l s.window.values) l (sample_reply r xs) →
+          (trailing v l t (sample xs)).counted ≡ true ∷ t.counted
+      by xs s (files e o) m = rw (e, sym (window_now h k.filed xs), measured_counts r (window_after r xs) h.same (rw o at m))
+      by xs s (declines e o) m = absurd (rw o.is at m)
 
   counted_now : {t : Trail} {r : Relay} → Valid v r → Traced v l t r → (c : Call) → Measures (Fault l) l r c →
       (trailing v l t c).counted ≡ true ∷ t.counted
@@ -84,8 +87,8 @@ module _ (v : Setting) (Fault : System → List ℤ → Measure → Type 0) (sur
   row : {t : Trail} {r : Relay} → Valid v r → Traced v l t r → (faults : List Call) → Every (λ r. Unit {0}) (Measures (Fault l) l) r faults →
       (foldl (trailing v l) t faults).counted ≡ replicate (length faults) true ++ t.counted
   row h k [] e = refl
-  row {t = t} h k (c ∷ cs) e =
-      row (valid_after h c) (traced_kept v l h k (step h c)) cs e.1.1
+  row {t = t} {r = r} h k (c ∷ cs) e =
+      row {t = trailing v l t c} {r = after r c} (valid_after h c) (traced_kept v l h k (step h c)) cs e.1.1
       ∙ ap (λ (bs : List Bool). replicate (length cs) true ++ bs) (counted_now h k c e.1.0)
       ∙ one_more (length cs) t.counted
 
