@@ -34,25 +34,23 @@ overflow_add-b-in-loop-j c = omega (arith, sum_fits c, row_fits c)
 
 pub loop-j-preserved : goal.loop-j-preserved
 loop-j-preserved c =
-    let l = c in
-    let sums = l.args.c.sums in
-    let rows = l.args.c.rows in
-    let in-sums : l.loop-j.j < length sums = search rules in
-    let in_rows : l.loop-j.j < length rows = search rules in (
+    let sums = c.args.c.sums in
+    let rows = c.args.c.rows in
+    let in-sums : c.loop-j.j < length sums = search rules in
+    let in_rows : c.loop-j.j < length rows = search rules in (
       search rules,
       omega (arith, sum_fits c),
       omega (arith, sum_fits c, row_fits c),
-      omega (arith, total_next sums l.loop-j.j in-sums),
-      omega (arith, weighed_next sums l.loop-j.j in-sums, total_next rows l.loop-j.j in_rows),
+      omega (arith, total_next sums c.loop-j.j in-sums),
+      omega (arith, weighed_next sums c.loop-j.j in-sums, total_next rows c.loop-j.j in_rows),
     )
 
 pub returns : goal.returns
 returns c =
-    let l = c in
-    let sums = l.args.c.sums in
-    let rows = l.args.c.rows in
+    let sums = c.args.c.sums in
+    let rows = c.args.c.rows in
     let long : length sums ≡ 34 = search rules in
     let long' : length rows ≡ 34 = search rules in
-    let all : take l.loop-j.j sums ≡ sums = take_all l.loop-j.j sums (omega arith) in
-    let all' : take l.loop-j.j rows ≡ rows = take_all l.loop-j.j rows (omega arith) in
-    rw (l.loop-j.invariant.3, l.loop-j.invariant.4, all, all')
+    let all : take c.loop-j.j sums ≡ sums = take_all c.loop-j.j sums (omega arith) in
+    let all' : take c.loop-j.j rows ≡ rows = take_all c.loop-j.j rows (omega arith) in
+    rw (c.loop-j.invariant.3, c.loop-j.invariant.4, all, all')

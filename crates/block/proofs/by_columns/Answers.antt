@@ -15,17 +15,16 @@ pub overflow_add-sums : goal.overflow_add-sums
 overflow_add-sums c = let h = c.loop-j.invariant.1 in omega (arith, h.row, h.small c.loop-j.j)
 
 pub loop-j-preserved : goal.loop-j-preserved
-loop-j-preserved c =
-    let l = c in (
-      search rules,
-      added_more
-          l.loop-j.invariant.1
-          l.loop-j-test.true
-          (omega arith)
-          l.requires
-          c.wide.ensures.is
-          c.wide.ensures.small,
-    )
+loop-j-preserved c = (
+  search rules,
+  added_more
+      c.loop-j.invariant.1
+      c.loop-j-test.true
+      (omega arith)
+      c.requires
+      c.wide.ensures.is
+      c.wide.ensures.small,
+)
 
 pub loop-start-preserved : goal.loop-start-preserved
 loop-start-preserved c = let h = c.loop-j.invariant.1 in (omega (arith, h.row), added_row h (omega arith))

@@ -28,18 +28,16 @@ loop-at-init c = search rules
 pub loop-at-preserved : goal.loop-at-preserved
 unfolding zeros
 loop-at-preserved c =
-    let l = c in
-    let s = l.args.s.now in
-    let at = l.loop-at.at in
+    let s = c.args.s.now in
+    let at = c.loop-at.at in
     let test = c.loop-at-test.true in (
       search rules,
       search rules,
-      rw (add-one at, take-suc s at 0 test, each-++ (λ x. eqb x 0) (take at s) (get_or s at 0 ∷ []), l.loop-at.invariant.2, and-true (eqb (get_or s at 0) 0))
-          (both_zero l.loop-at.sum (get_or s at 0) ∙ ap (λ (x : ℕ). eqb (l.loop-at.sum + x) 0) (sym c.wider-sum.ensures.is)),
+      rw (add-one at, take-suc s at 0 test, each-++ (λ x. eqb x 0) (take at s) (get_or s at 0 ∷ []), c.loop-at.invariant.2, and-true (eqb (get_or s at 0) 0))
+          (both_zero c.loop-at.sum (get_or s at 0) ∙ ap (λ (x : ℕ). eqb (c.loop-at.sum + x) 0) (sym c.wider-sum.ensures.is)),
     )
 
 pub returns : goal.returns
 returns c =
-    let l = c in
-    let s = l.args.s.now in
-    sym l.loop-at.invariant.2 ∙ ap zeros (take_all l.loop-at.at s c.loop-at-test.false)
+    let s = c.args.s.now in
+    sym c.loop-at.invariant.2 ∙ ap zeros (take_all c.loop-at.at s c.loop-at-test.false)

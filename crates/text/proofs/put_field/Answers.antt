@@ -11,11 +11,9 @@ put-after-requires c = room_first (ascii " ") (decimal _) c.requires
 pub put_number-requires : goal.put_number-requires
 unfolding ascii up_to
 put_number-requires c =
-    let start = c in
-    room_after (decimal _) start.requires c.put-after.ensures
+    room_after (decimal _) c.requires c.put-after.ensures
 
 pub returns : goal.returns
 unfolding ascii up_to
 returns c =
-    let put = c in
-    puts_both put.requires put.put-after.ensures c.put_number.ensures
+    puts_both c.requires c.put-after.ensures c.put_number.ensures

@@ -13,5 +13,4 @@ returns-then-s-ne80 c = simp (eq-eqb _ _ c.if-s-ne84.false, eq-eqb _ _ c.if-s-ne
 
 pub returns : goal.returns
 returns c =
-    let b = c in
-    rw (eq-eqb _ _ b.if-s-ne84.false, eq-eqb _ _ b.if-s-ne68.false, eq-eqb _ _ c.if-s-ne80.false)
+    rw (eq-eqb _ _ c.if-s-ne84.false, eq-eqb _ _ c.if-s-ne68.false, eq-eqb _ _ c.if-s-ne80.false)

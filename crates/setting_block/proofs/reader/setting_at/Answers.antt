@@ -6,30 +6,26 @@ use Rattle.setting_block.proofs.reader.setting_at.Goals as goal
 pub returns : goal.returns
 unfolding setting_at
 returns c =
-    let pickup = c in
-    let fifth = pickup in
-    let high = fifth in
-    let e3 = high in
-    let s = e3.args.s.now in
+    let s = c.args.s.now in
     λ i.
     record {
       ends = get_or s 4 0;
       flags = get_or s 5 0;
       confirm = get_or s 6 0;
       power = c.u32_at.ensures i;
-      e0 = e3.end_at-e0.ensures i;
-      e1 = e3.end_at-e1.ensures i;
-      e2 = e3.end_at-e2.ensures i;
-      e3 = e3.end_at-e3.ensures i;
+      e0 = c.end_at-e0.ensures i;
+      e1 = c.end_at-e1.ensures i;
+      e2 = c.end_at-e2.ensures i;
+      e3 = c.end_at-e3.ensures i;
       thresholds =
           record {
-            basic = high.u16_at.ensures i;
-            high = high.u16_at-2.ensures i;
-            slope1 = fifth.u16_at-3.ensures i;
-            slope2 = fifth.u16_at-4.ensures i;
-            knee = fifth.u16_at-5.ensures i;
-            second = fifth.u16_at-6.ensures i;
-            fifth = fifth.u16_at-7.ensures i;
+            basic = c.u16_at.ensures i;
+            high = c.u16_at-2.ensures i;
+            slope1 = c.u16_at-3.ensures i;
+            slope2 = c.u16_at-4.ensures i;
+            knee = c.u16_at-5.ensures i;
+            second = c.u16_at-6.ensures i;
+            fifth = c.u16_at-7.ensures i;
           };
-      overcurrent = record { pickup = pickup.u16_at-8.ensures i; curve = get_or s 76 0 };
+      overcurrent = record { pickup = c.u16_at-8.ensures i; curve = get_or s 76 0 };
     }

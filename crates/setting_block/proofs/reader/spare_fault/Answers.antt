@@ -9,48 +9,37 @@ use Rattle.setting_block.proofs.reader.spare_fault.Goals as goal
 
 pub bounds-s-at : goal.bounds-s-at
 bounds-s-at c =
-    let l = c in
-    omega (arith, few_in l.few_spares-few.ensures l.loop-k.k)
+    omega (arith, few_in c.few_spares-few.ensures c.loop-k.k)
 
 pub returns-then-s-at-ne0 : goal.returns-then-s-at-ne0
 returns-then-s-at-ne0 c =
-    let l = c in
-    let place = few_at l.few_spares-few.ensures l.loop-k.k (search rules) in
-    let turn = spare_turn l.args.s.now l.loop-k.k l.loop-k.invariant.1 place (omega arith) in
+    let place = few_at c.few_spares-few.ensures c.loop-k.k (search rules) in
+    let turn = spare_turn c.args.s.now c.loop-k.k c.loop-k.invariant.1 place (omega arith) in
     sym (turn ∙ rw (ne_eqb _ _ c.if-s-at-ne0.true)) ∙ spares_lowest _
 
 pub loop-k-preserved : goal.loop-k-preserved
 loop-k-preserved c =
-    let l = c in
-    let place = few_at l.few_spares-few.ensures l.loop-k.k (search rules) in
-    let turn = spare_turn l.args.s.now l.loop-k.k l.loop-k.invariant.1 place (omega arith) in
+    let place = few_at c.few_spares-few.ensures c.loop-k.k (search rules) in
+    let turn = spare_turn c.args.s.now c.loop-k.k c.loop-k.invariant.1 place (omega arith) in
     (search rules, sym (turn ∙ rw (eq-eqb _ _ c.if-s-at-ne0.false)))
 
 pub returns-then-zeros : goal.returns-then-zeros
 returns-then-zeros c =
-    let l = c in
-    let start = l in
-    let e : l.loop-k.k ≡ 9 = omega arith in
-    sym (run_zero start.args.s.now start.requires (sym c.zeros.ensures ∙ c.if-zeros.true)) ∙ (rw e at l.loop-k.invariant.1) ∙ spares_lowest _
+    let e : c.loop-k.k ≡ 9 = omega arith in
+    sym (run_zero c.args.s.now c.requires (sym c.zeros.ensures ∙ c.if-zeros.true)) ∙ (rw e at c.loop-k.invariant.1) ∙ spares_lowest _
 
 pub returns-then-s-at-ne0-2 : goal.returns-then-s-at-ne0-2
 returns-then-s-at-ne0-2 c =
-    let l = c in
-    let k = l.loop-k-2.k in
-    let start = l in
-    let turn = spare_turn start.args.s.now k l.loop-k-2.invariant.2 (run_at k (search rules) (search rules)) (search rules) in
+    let k = c.loop-k-2.k in
+    let turn = spare_turn c.args.s.now k c.loop-k-2.invariant.2 (run_at k (search rules) (search rules)) (search rules) in
     sym (turn ∙ rw (ne_eqb _ _ c.if-s-at-ne0-2.true)) ∙ spares_lowest _
 
 pub loop-k-2-preserved : goal.loop-k-2-preserved
 loop-k-2-preserved c =
-    let l = c in
-    let k = l.loop-k-2.k in
-    let start = l in
-    let turn = spare_turn start.args.s.now k l.loop-k-2.invariant.2 (run_at k (search rules) (search rules)) (search rules) in
+    let k = c.loop-k-2.k in
+    let turn = spare_turn c.args.s.now k c.loop-k-2.invariant.2 (run_at k (search rules) (search rules)) (search rules) in
     (search rules, search rules, sym (turn ∙ rw (eq-eqb _ _ c.if-s-at-ne0-2.false)))
 
 pub returns : goal.returns
 returns c =
-    let l = c in
-    let start = l in
-    spare_done start.args.s.now l.loop-k-2.k l.loop-k-2.invariant.2 (search rules) ∙ spares_lowest _
+    spare_done c.args.s.now c.loop-k-2.k c.loop-k-2.invariant.2 (search rules) ∙ spares_lowest _
