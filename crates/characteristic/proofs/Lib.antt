@@ -3,3 +3,4 @@ mod Sections
 pub mod Bound
 pub mod SlopeLaws
 pub mod OneEndLaws
+pub mod OneEnd

@@ -1,19 +1,18 @@
 -- A section asks for 200·P and slopes times what R has beyond P; and 200·D has 200 times what D has beyond P. So with both slopes below 200 percent a D that
 -- is no less than R wins wherever it is above P; and with one of 200 or more it loses against R = D.
-use mathlib.Core.Path.{◌≡◌, refl, sym, ◌∙◌}
-use mathlib.Core.Bool.{Bool, true, false, false≢true}
+use mathlib.Core.Path.{◌≡◌, refl, ◌∙◌}
+use mathlib.Core.Bool.{Bool, true, false}
 use Prim.Native.Nat.{ℕ, ◌*◌, ◌-◌, ◌≤◌, ◌<◌}
 use native.Mathlib.Nat.{le_refl, mul-le-mul}
 use native.Mathlib.Omega.{arith}
 use lib.Dec.{T, leb}
-use borrow.Author.Tests.{leb-true, leb-false, le-ltb, lt-ltb}
+use borrow.Author.Tests.{leb-true, leb-false, lt-ltb}
 use Rattle.setting.specs.declared.Setting.{Setting}
 use Rattle.setting.specs.declared.Thresholds.{Thresholds}
 use Rattle.setting.specs.Values.{startable}
 use Rattle.setting.proofs.LimitLaws.{startable_is}
 use Rattle.characteristic.specs.Characteristic.{starts}
 use Rattle.characteristic.specs.Slopes.{second_line}
-use Rattle.characteristic.specs.OneEnd.{StartsAboveP, BlindBySlope1, BlindBySlope2}
 use Rattle.characteristic.proofs.Bound.{starts_no}
 use Rattle.characteristic.proofs.Sections.{third_line, in_first, in_second, in_third}
 
@@ -37,7 +36,7 @@ module _ (v : Setting) (s : T (startable v)) (D R : ℕ) (above : v.thresholds.b
         mul-le-mul k.slope2.most (le_refl (R - 2 * t.knee)),
       )
 
-  starts_above : starts v D R ≡ true
+  pub starts_above : starts v D R ≡ true
   starts_above = by (leb R t.basic) (leb R (2 * t.knee)) refl refl
     where
       by : (low under : Bool) → leb R t.basic ≡ low → leb R (2 * t.knee) ≡ under → starts v D R ≡ true
@@ -52,34 +51,9 @@ module _ (v : Setting) (s : T (startable v)) (D R : ℕ) (above : v.thresholds.b
 
 -- ---- D up to P, which never starts
 
-unless_above : {A : Type 0} (v : Setting) (D R : ℕ) → (starts v D R ≡ false → A) → (v.thresholds.basic < D → A) → A
+pub unless_above : {A : Type 0} (v : Setting) (D R : ℕ) → (starts v D R ≡ false → A) → (v.thresholds.basic < D → A) → A
 unless_above {A = A} v D R idle over = by (leb D v.thresholds.basic) refl
   where
     by : (b : Bool) → leb D v.thresholds.basic ≡ b → A
     by true low = idle (starts_no v D R (leb-true D v.thresholds.basic low))
     by false past = over (leb-false D v.thresholds.basic past)
-
-pub starts_above_P : StartsAboveP
-unfolding StartsAboveP
-starts_above_P v s D R within = (
-  (λ started. unless_above v D R (λ no. absurd (false≢true (sym no ∙ started))) (λ above. above)),
-  (λ above. starts_above v s D R above within),
-)
-
--- ---- slopes of 200 percent and more
-
-pub blind_by_slope_1 : BlindBySlope1
-unfolding BlindBySlope1
-blind_by_slope_1 v steep D under =
-    let t = v.thresholds in
-    unless_above v D D (λ no. no)
-    (λ above. in_second v D D above under ∙ le-ltb (second_line t D) (200 * D) (omega (arith, mul-le-mul steep (le_refl (D - t.basic)))))
-
-pub blind_by_slope_2 : BlindBySlope2
-unfolding BlindBySlope2
-blind_by_slope_2 v steep D far =
-    let t = v.thresholds in
-    let more : 201 ≤ t.slope2 = omega (arith, steep) in
-    unless_above v D D (λ no. no)
-    (λ above.
-    in_third v D D above (omega arith) ∙ le-ltb (third_line t D) (200 * D) (omega (arith, mul-le-mul more (le_refl (D - 2 * t.knee)))))

@@ -6,4 +6,5 @@ mod Rounding
 pub mod HalfUnit
 pub mod RootLaws
 mod Newton
+mod FewTurns
 pub mod SumLaws

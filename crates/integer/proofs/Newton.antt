@@ -7,9 +7,8 @@ use native.Mathlib.Nat.{mul-le-mul, div-lt_iff_lt-mul, le-div_iff_mul-le, div-le
 use native.Mathlib.Omega.{arith}
 use lib.Dec.{T, leb, ltb, leb→le, nleb→lt, ltb→lt, nltb→le}
 use lib.Pow.{pow_mono, pow-add}
-use lib.Count.{count_leading_zeros, leading_top}
-use Rattle.integer.specs.Root.{Root, root, digits, step, most, capped, start, reached, turns_from, turns_at, turns, FewTurns}
-use Rattle.integer.proofs.RootLaws.{root_is}
+use lib.Count.{leading_top}
+use Rattle.integer.specs.Root.{Root, root, digits, step, most, capped, start, reached, turns_from, turns_at, turns}
 
 -- ---- a step
 
@@ -97,7 +96,7 @@ turns_some zero h = absurd (omega arith)
 turns_some (suc n) h = refl
 
 -- from nearer to the root than 2 ^ j, no more than j
-few_from : (j bound n r m : ℕ) (t : Bool) → (T (not t) → n < r * r) → Root n m → r < m + 2 ^ j → turns_from bound t n r ≤ j
+pub few_from : (j bound n r m : ℕ) (t : Bool) → (T (not t) → n < r * r) → Root n m → r < m + 2 ^ j → turns_from bound t n r ≤ j
 unfolding turns_from
 few_from j zero n r m t h root near = omega arith
 few_from j (suc bound) n r m true h root near = omega arith
@@ -185,27 +184,3 @@ start_near n some fits =
     let over = step_above n (second n) (second_pos n some fits) in
     let c = capped_above n r fits (omega (arith, over)) in
     (c.0, c.1, omega (arith, c.2, third-≤ n some fits))
-
--- ---- no more turns than digits
-
-pub few_turns : FewTurns
-few_turns = record { few = few; none = refl }
-  where
-    few : (n : ℕ) → n < 2 ^ 64 → turns n ≤ digits n
-    few zero h = omega arith
-    few (suc n) h =
-        let x = suc n in
-        let t = leading_top 64 x (omega arith) h in
-        let e : digits x ≡ suc t.0 = omega (arith, t.1) in
-        let is = root_is x in
-        let near : start x < root x + 2 ^ digits x = rw e (omega (arith, (start_near x (omega arith) h).2, t.3, some (root x) is.high)) in
-        few_from (digits x) (start x) x (start x) (root x) (reached x (start x)) (nleb→lt _ _) is near
-      where
-        some : (m : ℕ) → suc n < (m + 1) * (m + 1) → 0 < m
-        some zero h = absurd (omega arith)
-        some (suc m) h = omega arith
-
--- 0, 1 and 3, a million, one that takes three turns, and the largest number of 64 digits
-worked : (turns 0 ≡ 0) × (turns 1 ≡ 1) × (turns 3 ≡ 2) × (turns 1000000 ≡ 1) × (turns 156738930447526599 ≡ 3) × (turns 18446744073709551615 ≡ 0)
-unfolding turns_from start count_leading_zeros
-worked = (refl, refl, refl, refl, refl, refl)

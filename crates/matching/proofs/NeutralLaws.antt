@@ -65,7 +65,7 @@ module _ (v : Setting) (xs : List ℤ) where
         bank =
             record {
               w = b.w;
-              over_ends_lem = b.over_ends_lem;
+              over_ends = b.over_ends;
               over_limbs = λ z h t. b.over_limbs z h;
               common = b.common;
               unfiltered = b.unfiltered;
@@ -85,7 +85,7 @@ module _ (v : Setting) (xs : List ℤ) where
       let b = s.bank in
       record {
         w = b.w;
-        over_ends_lem = b.over_ends_lem;
+        over_ends = b.over_ends;
         over_limbs = s.over_limbs;
         common = b.common;
         unfiltered = b.unfiltered;

@@ -36,8 +36,8 @@ module _ (v : Setting) (w : ℕ → Three) (common : ℕ → ℤ) (xs : List ℤ
   error z l = let i = ideal_at z l in pos 2 *ℤ (pos (1000 * i.under) *ℤ (seen l (phases xs z)).p -ℤ i.top)
 
   -- what is tested of a limb, of an end in use, of one of its samples, and of an end that is not in use
-  abbrev over_ends_lem : System → Bool
-  over_ends_lem l = eq_z (sum v.ends (λ z. (seen l (w z)).p)) (pos 0)
+  abbrev over_ends : System → Bool
+  over_ends l = eq_z (sum v.ends (λ z. (seen l (w z)).p)) (pos 0)
 
   abbrev over_limbs : ℕ → Bool
   over_limbs z = cond (filtered (end_of v z)) (eq_z (sum3 (w z)) (pos 0)) true
@@ -56,7 +56,7 @@ module _ (v : Setting) (w : ℕ → Three) (common : ℕ → ℤ) (xs : List ℤ
 
   unfoldable pub facts : List Bool
   facts =
-      systems over_ends_lem
+      systems over_ends
       ∷ every v.ends over_limbs
       ∷ every v.ends unfiltered
       ∷ every v.ends (λ z. systems (near z))
@@ -69,7 +69,7 @@ module _ (v : Setting) (w : ℕ → Three) (common : ℕ → ℤ) (xs : List ℤ
       let at = hold_at facts h in
       record {
         w = w;
-        over_ends_lem = λ l. eq_z→≡ _ _ (systems_at over_ends_lem (at 0) l);
+        over_ends = λ l. eq_z→≡ _ _ (systems_at over_ends (at 0) l);
         over_limbs = λ z k e. eq_z→≡ _ _ (when _ (eq_z (sum3 (w z)) (pos 0)) (every_at v.ends over_limbs (at 1) z k) e);
         common = common;
         unfiltered = λ z k e. eq_z→≡ _ _ (unless _ (eq_z (common z) (pos 0)) (every_at v.ends unfiltered (at 2) z k) e);

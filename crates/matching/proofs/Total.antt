@@ -71,7 +71,7 @@ pub total_bound : TotalBound
 unfolding TotalBound total
 total_bound v start xs reach bank l =
     within-≤
-    (sum_close (λ z. matched_at v xs z l) (λ z. (seen l (bank.w z)).p) v.ends 13 (λ z h. end_bound v start xs reach bank z h l) (bank.over_ends_lem l))
+    (sum_close (λ z. matched_at v xs z l) (λ z. (seen l (bank.w z)).p) v.ends 13 (λ z h. end_bound v start xs reach bank z h l) (bank.over_ends l))
     (omega arith)
 
 pub matched_bound : MatchedBound

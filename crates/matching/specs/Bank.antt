@@ -54,7 +54,7 @@ pub record Healthy (v : Setting) (xs : List ℤ) : Type 0 where
   -- (§ A healthy bank 1)
   pub w : ℕ → Three
   -- they sum to zero over the ends for each limb (§ A healthy bank 2)
-  pub over_ends_lem : (l : System) → sum v.ends (λ z. (seen l (w z)).p) ≡ pos 0
+  pub over_ends : (l : System) → sum v.ends (λ z. (seen l (w z)).p) ≡ pos 0
   -- and over the limbs at each end with the filter on; with the filter off they may sum to anything (§ A healthy bank 3)
   pub over_limbs : (z : ℕ) → z < v.ends → filtered (end_of v z) ≡ true → sum3 (w z) ≡ pos 0
   -- one more whole number at each end with the filter on, the same on its three phases, in thousandths of a sample's unit there (§ A healthy bank 7)

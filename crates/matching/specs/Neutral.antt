@@ -14,7 +14,7 @@ pub record WithoutNeutral (v : Setting) (xs : List ℤ) : Type 0 where
   -- there are whole numbers w, by end and limb A, B, C, in thousandths of a unit
   pub w : ℕ → Three
   -- they sum to zero over the ends for each limb
-  pub over_ends_lem : (l : System) → sum v.ends (λ z. (seen l (w z)).p) ≡ pos 0
+  pub over_ends : (l : System) → sum v.ends (λ z. (seen l (w z)).p) ≡ pos 0
   -- and over the limbs at each end
   pub over_limbs : (z : ℕ) → z < v.ends → sum3 (w z) ≡ pos 0
   -- one more whole number of thousandths at each end with the filter on, the same on its three phases

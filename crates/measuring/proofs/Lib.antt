@@ -3,4 +3,5 @@ mod PartLaws
 mod EndLaws
 mod Holding
 pub mod OneEndLaws
+pub mod OneEnd
 pub mod Negated

@@ -18,7 +18,7 @@ use Rattle.amplitude.proofs.Same.{amplitude_same, amplitude_zero}
 use Rattle.amplitude.proofs.Negated.{amplitude_negated}
 use Rattle.measuring.specs.Window.{at, series, sums, difference}
 use Rattle.measuring.specs.Measuring.{sumℕ, twice_restraint}
-use Rattle.measuring.specs.OneEnd.{FedFrom, OneEndAmplitude}
+use Rattle.measuring.specs.OneEnd.{FedFrom}
 
 -- ---- a sum of which one term is left
 
@@ -37,9 +37,9 @@ sumℕ_only f z (suc n) l h = by (ℕ_discrete n z) (λ d. sumℕ_only f z n (om
 -- ---- D and R
 
 module _ (E : ℕ) (win : List ℤ) (l : System) (z : ℕ) (fed : FedFrom E win l z) where
-  d_is : amplitude 1 (sums E win l) ≡ amplitude 1 (series win z l)
+  pub d_is : amplitude 1 (sums E win l) ≡ amplitude 1 (series win z l)
   d_is =
-      amplitude_same (sums E win l) (series win z l) (λ k m. sum_only (λ e. at win k e l) z E fed.in_use_lem (λ e u d. fed.others_zero k e m u d)) 1
+      amplitude_same (sums E win l) (series win z l) (λ k m. sum_only (λ e. at win k e l) z E fed.in_use (λ e u d. fed.others_zero k e m u d)) 1
 
   -- with two ends: end 0, or end 1 negated
   between_is : E ≡ 2 → (y : ℕ) → y ≡ z → amplitude 1 (difference win l) ≡ amplitude 1 (series win y l)
@@ -47,9 +47,9 @@ module _ (E : ℕ) (win : List ℤ) (l : System) (z : ℕ) (fed : FedFrom E win 
       amplitude_same (difference win l) (series win 0 l) (λ k m. rw (fed.others_zero k 1 m (omega arith) (omega arith)) (simp ints (omega arith))) 1
   between_is two (suc zero) e =
       amplitude_negated (difference win l) (series win 1 l) (λ k m. rw (fed.others_zero k 0 m (omega arith) (omega arith)) (simp ints (omega arith))) 1
-  between_is two (suc (suc y)) e = absurd (omega (arith, fed.in_use_lem))
+  between_is two (suc (suc y)) e = absurd (omega (arith, fed.in_use))
 
-  r_is : twice_restraint E win l ≡ amplitude 1 (series win z l)
+  pub r_is : twice_restraint E win l ≡ amplitude 1 (series win z l)
   unfolding twice_restraint
   r_is = by (eqb E 2) refl
     where
@@ -59,8 +59,4 @@ module _ (E : ℕ) (win : List ℤ) (l : System) (z : ℕ) (fed : FedFrom E win 
       by : (b : Bool) → eqb E 2 ≡ b → cond b (amplitude 1 (difference win l)) ends ≡ amplitude 1 (series win z l)
       by true e = between_is (eqb-true E 2 e) z refl
       by false e =
-          sumℕ_only (λ e. amplitude 1 (series win e l)) z E fed.in_use_lem (λ e u d. amplitude_zero (series win e l) (λ k m. fed.others_zero k e m u d))
-
-pub one_end_amplitude : OneEndAmplitude
-unfolding OneEndAmplitude
-one_end_amplitude v win l z fed = (d_is v.ends win l z fed, r_is v.ends win l z fed)
+          sumℕ_only (λ e. amplitude 1 (series win e l)) z E fed.in_use (λ e u d. amplitude_zero (series win e l) (λ k m. fed.others_zero k e m u d))

@@ -8,7 +8,7 @@ use Rattle.measuring.specs.Measuring.{differential, twice_restraint}
 
 -- A system is fed from end z: at each of the twelve sets its matched numbers of all other ends in use are zero.
 pub record FedFrom (ends : ℕ) (win : List ℤ) (l : System) (z : ℕ) : Type 0 where
-  pub in_use_lem : z < ends
+  pub in_use : z < ends
   pub others_zero : (k e : ℕ) → k < 12 → e < ends → e ≢ z → at win k e l ≡ pos 0
 
 -- Then D is that end's amplitude, and so is R, twice the restraint, also where it is the end that is subtracted.

@@ -32,7 +32,7 @@ one_end_samples v s sets z twelve used sole l =
     let four = (startable_is v s).limits.four in
     let twelves : Each Twelve (map (numbers v) sets) = each_mapped (numbers v) (λ xs h. twelve_numbers v xs) sole in
     record {
-      in_use_lem = used;
+      in_use = used;
       others_zero = λ k e h u d.
           let zeros : Each (λ ns. number_at ns e l ≡ pos 0) (map (numbers v) sets) =
           each_mapped (numbers v) (λ xs at. number_at_lem v s xs e l u ∙ matched_at_zero v s xs e u l (at e u d)) sole in

@@ -46,7 +46,7 @@ module _ (v : Setting) (l : System) (win : List ℤ) (m : Measure) (z : ℕ) whe
         fault =
             record {
               end = z;
-              fed = record { in_use_lem = ltb→lt z v.ends used; others_zero = zero_at };
+              fed = record { in_use = ltb→lt z v.ends used; others_zero = zero_at };
               above_P = ltb→lt v.thresholds.basic m.reading.d above;
             };
         not_blocked = free;

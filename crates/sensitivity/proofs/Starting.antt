@@ -6,10 +6,10 @@ use native.Mathlib.Omega.{arith}
 use Rattle.setting.proofs.LimitLaws.{startable_is}
 use Rattle.amplitude.proofs.PeakLaws.{peak_small}
 use Rattle.characteristic.specs.OneEnd.{StartsAboveP}
-use Rattle.characteristic.proofs.OneEndLaws.{starts_above_P}
+use Rattle.characteristic.proofs.OneEnd.{starts_above_P}
 use Rattle.measuring.specs.Measuring.{differential}
 use Rattle.measuring.specs.OneEnd.{OneEndAmplitude}
-use Rattle.measuring.proofs.OneEndLaws.{one_end_amplitude}
+use Rattle.measuring.proofs.OneEnd.{one_end_amplitude}
 use Rattle.stability.proofs.Demand3.{stability}
 use Rattle.sensitivity.specs.OneEnd.{OneEndStarts}
 use Rattle.sensitivity.specs.TwoSides.{Distance, TwoSides}

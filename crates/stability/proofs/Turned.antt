@@ -197,7 +197,7 @@ turned_now {v} {r} h =
     let win = r.window.values in
     record {
       relay = refl;
-      of_sums_lem = λ l. cycles (sums_negated win v.ends l);
+      of_sums = λ l. cycles (sums_negated win v.ends l);
       of_difference = λ l. cycles (difference_negated win l);
       of_end = λ z l. cycles (series_negated win z l);
       same_sets = λ xs. ap none_applies (rows_same v xs);

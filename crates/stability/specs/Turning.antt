@@ -44,7 +44,7 @@ pub record Turned (v : Setting) (r t : Relay) : Type 0 where
   -- the matched numbers in the window are negated; setting, fill, counters, latches, events, sums and trips are the same
   pub relay : t ≡ turned_relay r
   -- c and s are negated, of the sum over the ends, of end 0 minus end 1, and of each end
-  pub of_sums_lem : (l : System) → CyclesNegated (sums v.ends t.window.values l) (sums v.ends r.window.values l)
+  pub of_sums : (l : System) → CyclesNegated (sums v.ends t.window.values l) (sums v.ends r.window.values l)
   pub of_difference : (l : System) → CyclesNegated (difference t.window.values l) (difference r.window.values l)
   pub of_end : (z : ℕ) (l : System) → CyclesNegated (series t.window.values z l) (series r.window.values z l)
   -- the same sets are accepted

@@ -6,7 +6,8 @@ use native.Mathlib.Nat.{mul-le-mul, div-lt_iff_lt-mul}
 use native.Mathlib.Omega.{arith}
 use Rattle.integer.specs.Root.{Root, step}
 use Rattle.integer.proofs.RootLaws.{root_only}
-use Rattle.integer.proofs.Newton.{square_pos, step_above, step_below, turns_done, turns_more, turns_some, start_near, few_turns}
+use Rattle.integer.proofs.Newton.{square_pos, step_above, step_below, turns_done, turns_more, turns_some, start_near}
+use Rattle.integer.proofs.FewTurns.{few_turns}
 use Rattle.integer.proofs.root.Goals as goal
 use Rattle.integer.proofs.root.Invariants.{Above}
 use Rattle.integer.proofs.root.Goals.{In-loop-r}

@@ -1,5 +1,5 @@
--- `measuring::one_end` meets its contract, which is the law of proofs/OneEndLaws.antt.
-use Rattle.measuring.proofs.OneEndLaws.{one_end_amplitude}
+-- `measuring::one_end` meets its contract, which is the law of proofs/OneEnd.antt.
+use Rattle.measuring.proofs.OneEnd.{one_end_amplitude}
 use Rattle.measuring.proofs.one_end.Goals as goal
 
 pub returns : goal.returns
