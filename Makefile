@@ -80,9 +80,10 @@ build/host.so: examples/host.c include/tdp.h $(HOST)
 build/host-shared: build/host.so
 	$(CC) -o $@ $< -Wl,-rpath,'$$ORIGIN'
 
-# `rt lib` and `rt run` prove what they build, over what earlier checks kept in out/. rt ci leaves the programs too, but not the library.
+# `rt lib` and `rt run` prove what they build, over what earlier checks kept in out/. rt ci leaves the programs too, but not the library. Without `--cpu` the
+# library would ask for a processor with SSE4.2, and its header promises SSE2.
 $(HOST): $(SOURCES)
-	cd crates/host && rt lib
+	cd crates/host && rt lib --cpu x86-64
 	@touch $@
 
 $(BENCH) $(CALLS): crates/%: $(SOURCES)

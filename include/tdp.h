@@ -1,6 +1,6 @@
 /* The measuring engine of a three-phase transformer differential relay, for C.
  *
- * Link with libhost.a, which `rt lib` in crates/host writes to its out/: code for x86-64 with SSE2 and the System V calling convention, its red zone
+ * Link with libhost.a, which `rt lib --cpu x86-64` in crates/host writes to its out/: code for x86-64 with SSE2 and the System V calling convention, its red zone
  * included, position independent. At most it calls memcpy, memmove and memset, which a freestanding host must give, and it takes some 4 kB of stack. The calls
  * keep no state, so that they may run in several threads at once, and write to none of what is handed to them. Any bytes may be handed over, of any
  * length and alignment, the same ones twice too; a length of 0 may go with a null pointer. Both calls always return.
