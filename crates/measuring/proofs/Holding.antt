@@ -56,18 +56,20 @@ module _ (v : Setting) (win : List ℤ) where
   abbrev above : System → Bool
   above m = ltb v.thresholds.basic (differential v win m)
 
-  holding_no : (m : System) → Unloaded v win m → holding v win m ≡ false
+  holding_is : (m : System) → holding v win m ≡ (harmonics v win m && above m)
   unfolding holding holds_back harmonics
-  holding_no m u = and_no (harmonics v win m) (above m) (le-ltb v.thresholds.basic (differential v win m) u)
+  holding_is m = refl
+
+  holding_no : (m : System) → Unloaded v win m → holding v win m ≡ false
+  holding_no m u = holding_is m ∙ and_no (harmonics v win m) (above m) (le-ltb v.thresholds.basic (differential v win m) u)
 
   holding_yes : (m : System) → Holder v win m → holding v win m ≡ true
-  unfolding holding holds_back harmonics
-  holding_yes m h = (and-eq-true_iff (harmonics v win m) (above m)).1 (h.has, lt-ltb v.thresholds.basic (differential v win m) h.above)
+  holding_yes m h =
+      holding_is m ∙ (and-eq-true_iff (harmonics v win m) (above m)).1 (h.has, lt-ltb v.thresholds.basic (differential v win m) h.above)
 
   holder : common_on v ≡ true → (m : System) → holding v win m ≡ true → Holder v win m
-  unfolding holding holds_back harmonics
   holder on m e =
-      let is = (and-eq-true_iff (harmonics v win m) (above m)).0 e in
+      let is = (and-eq-true_iff (harmonics v win m) (above m)).0 (sym (holding_is m) ∙ e) in
       record { common = on; has = is.0; above = ltb-true v.thresholds.basic (differential v win m) is.1 }
 
   abbrev any : Bool
