@@ -2,7 +2,10 @@
 use borrow.Author.Tests.{eq-eqb, ne_eqb}
 use mathlib.Core.Path.{◌≡◌, ap}
 use mathlib.Core.Bool.{not}
-use lib.ListN.{take}
+use mathlib.Core.List.{List}
+use Prim.Native.Nat.{ℕ}
+use native.Mathlib.Omega.{arith}
+use lib.ListN.{length, take}
 use Rattle.lists.specs.Tests.{Each, none, ◌&◌}
 use Rattle.refusal.specs.declared.Refusal.{Refusal}
 use Rattle.refusal.specs.declared.Verdict.{Verdict}
@@ -11,41 +14,43 @@ use Rattle.setting_block.specs.Layout.{spares}
 use Rattle.setting_block.specs.Calls.{read_rows, Reads}
 use Rattle.setting_block.proofs.ReaderCases.{answer, refused, judged}
 use Rattle.setting_block.proofs.reader.read_setting.Goals as goal
-use Rattle.setting_block.proofs.reader.read_setting.Goals.{After-verdict_beside-judged, Else-not-checked, Else-not-marked, Else-s-ne512}
+use Rattle.setting_block.proofs.reader.read_setting.Goals.{After-verdict_beside-judged, Else-not-checked, Else-not-marked}
 
--- the rows passed after each test
+-- the rows passed after each test of a block of 512 bytes
 
-passed_1 : (c : Else-s-ne512) → Each Passed (take 1 (read_rows c.args.s.now))
+passed_1 : (s : List ℕ) → length s ≡ 512 → Each Passed (take 1 (read_rows s))
 unfolding read_rows
-passed_1 c = ap not (eq-eqb _ _ c.if-s-ne512.false) & none
+passed_1 s long = ap not (eq-eqb _ _ long) & none
 
-passed_2 : (c : Else-not-checked) → Each Passed (take 2 (read_rows c.args.s.now))
+passed_2 : (c : Else-not-checked) → length c.args.s.now ≡ 512 → Each Passed (take 2 (read_rows c.args.s.now))
 unfolding read_rows
-passed_2 c = ap not (eq-eqb _ _ c.if-s-ne512.false) & rw (← c.checked.ensures) (ap not c.if-not-checked.false) & none
+passed_2 c long = ap not (eq-eqb _ _ long) & rw (← c.checked.ensures) (ap not c.if-not-checked.false) & none
 
-passed_3 : (c : Else-not-marked) → Each Passed (take 3 (read_rows c.args.s.now))
+passed_3 : (c : Else-not-marked) → length c.args.s.now ≡ 512 → Each Passed (take 3 (read_rows c.args.s.now))
 unfolding read_rows
-passed_3 c =
-    ap not (eq-eqb _ _ c.if-s-ne512.false)
+passed_3 c long =
+    ap not (eq-eqb _ _ long)
     & rw (← c.checked.ensures) (ap not c.if-not-checked.false)
     & rw (← c.marked.ensures) (ap not c.if-not-marked.false)
     & none
-
-pub returns-then-not-checked : goal.returns-then-not-checked
-unfolding read_rows
-returns-then-not-checked c =
-    refused c.args.s.now Refusal.Check
-    (past 1 _ (passed_1 (goal.at.returns-then-not-checked c).Else-s-ne512) (here (rw (← c.checked.ensures) (ap not c.if-not-checked.true))))
 
 pub returns-then-s-ne512 : goal.returns-then-s-ne512
 unfolding read_rows
 returns-then-s-ne512 c = refused c.args.s.now Refusal.Length (here (ap not (ne_eqb _ _ c.if-s-ne512.true)))
 
+pub returns-then-not-checked : goal.returns-then-not-checked
+unfolding read_rows
+returns-then-not-checked c =
+    let long : length c.args.s.now ≡ 512 = omega arith in
+    refused c.args.s.now Refusal.Check (past 1 _ (passed_1 _ long) (here (rw (← c.checked.ensures) (ap not c.if-not-checked.true))))
+
 pub returns-then-not-marked : goal.returns-then-not-marked
 unfolding read_rows
-returns-then-not-marked c = refused c.args.s.now Refusal.Mark (past 2 _ (passed_2 (goal.at.returns-then-not-marked c).Else-not-checked) (here (rw (← c.marked.ensures) (ap not c.if-not-marked.true))))
+returns-then-not-marked c =
+    let long : length c.args.s.now ≡ 512 = omega arith in
+    let at = goal.at.returns-then-not-marked c in
+    refused c.args.s.now Refusal.Mark (past 2 _ (passed_2 at.Else-not-checked long) (here (rw (← c.marked.ensures) (ap not c.if-not-marked.true))))
 
--- the answer by the verdict
 -- the answer by the verdict
 answered : (c : After-verdict_beside-judged) → Each Passed (take 3 (read_rows c.args.s.now)) → (r : Verdict) → c.verdict_beside-judged.result ≡ r
     → Reads c.args.s.now (answer c.setting_at-v.result r)
@@ -55,10 +60,12 @@ answered c p r e =
 
 pub returns-in-Accepted : goal.returns-in-Accepted
 returns-in-Accepted c =
+    let long : length c.args.s.now ≡ 512 = omega arith in
     let at = goal.at.returns-in-Accepted c in
-    answered at.After-verdict_beside-judged (passed_3 at.Else-not-marked) _ c.in-Accepted.is
+    answered at.After-verdict_beside-judged (passed_3 at.Else-not-marked long) _ c.in-Accepted.is
 
 pub returns-in-Refused : goal.returns-in-Refused
 returns-in-Refused c =
+    let long : length c.args.s.now ≡ 512 = omega arith in
     let at = goal.at.returns-in-Refused c in
-    answered at.After-verdict_beside-judged (passed_3 at.Else-not-marked) _ c.in-Refused.is
+    answered at.After-verdict_beside-judged (passed_3 at.Else-not-marked long) _ c.in-Refused.is
