@@ -64,7 +64,7 @@ fn filling(r: Relay, w: Window) -> Sampled
         c: state::element_after(v.confirm, false, t.c),
     };
     Sampled {
-        answer: Answer::Filling(w.fill),
+        answer: Ok(Answer::Filling(w.fill)),
         relay: renewed(r, w, trip, r.events, r.backup),
     }
 }
@@ -98,7 +98,7 @@ fn measured(r: Relay, w: Window) -> Sampled
         latched: trip.c.latch,
     };
     Sampled {
-        answer: Answer::Measured(of_a, of_b, of_c, overcurrent::tripped(backup)),
+        answer: Ok(Answer::Measured(of_a, of_b, of_c, overcurrent::tripped(backup))),
         relay: renewed(r, w, trip, events, backup),
     }
 }
@@ -109,7 +109,7 @@ fn refused(r: Relay, why: Refusal, set: bool) -> Sampled
 {
     if !set {
         return Sampled {
-            answer: Answer::Refused(why),
+            answer: Err(why),
             relay: r,
         };
     }
@@ -122,7 +122,7 @@ fn refused(r: Relay, why: Refusal, set: bool) -> Sampled
     let mut left = r;
     left.events = events;
     Sampled {
-        answer: Answer::Refused(why),
+        answer: Err(why),
         relay: left,
     }
 }

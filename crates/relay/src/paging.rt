@@ -3,7 +3,7 @@
 ghost use Rattle.std.specs.Prelude.{◌≡◌, ◌||◌, eqb};
 ghost use Rattle.relay.specs.Page.{resets as resets_of, written as written_of, Reads, Writes};
 
-use crate::{PageByte, PageRead, Relay, Returned, accepting, calls};
+use crate::{PageRead, Relay, Returned, accepting, calls};
 use refusal::{Refusal, Verdict};
 
 // 1 written to byte 7.
@@ -40,7 +40,7 @@ fn writable(offset: usize) -> bool
 }
 
 // The answer to a read, with the record as before.
-fn answered(r: Relay, answer: PageByte) -> PageRead
+fn answered(r: Relay, answer: Result<u8, Refusal>) -> PageRead
     ensures { result ≡ record { answer = answer; relay = r } }
 {
     PageRead {
@@ -55,10 +55,10 @@ impl Relay {
         ensures { Reads self offset result }
     {
         if 64 <= offset {
-            return answered(self, PageByte::Refused(Refusal::Offset));
+            return answered(self, Err(Refusal::Offset));
         }
         if !accepting::admissible(self) {
-            return answered(self, PageByte::Refused(Refusal::Record));
+            return answered(self, Err(Refusal::Record));
         }
         let byte = page::showing::byte_at(
             self.setting,
@@ -67,7 +67,7 @@ impl Relay {
             self.events,
             offset,
         );
-        answered(self, PageByte::Byte(byte))
+        answered(self, Ok(byte))
     }
 
     // A byte written to the register page: 15, 16, 12. Bytes 3, 4 and 7 are written.
