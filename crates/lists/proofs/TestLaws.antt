@@ -6,6 +6,7 @@ use Prim.Native.Nat.{ℕ, zero, suc, ◌<◌}
 use native.Mathlib.Omega.{arith}
 use lib.Dec.{T}
 use lib.ListN.{get_or, take, drop}
+use Rattle.std.specs.List.{list_all}
 use Rattle.lists.specs.Lists.{up_to}
 use Rattle.lists.specs.Tests.{hold, every, each, Each, none, ◌&◌}
 
@@ -59,6 +60,11 @@ every_at (suc n) t h (suc k) l = every_at n (λ k. t (suc k)) (split (t zero) (e
 pub every_of : (n : ℕ) (t : ℕ → Bool) → ((k : ℕ) → k < n → T (t k)) → T (every n t)
 every_of zero t h = tt
 every_of (suc n) t h = pair (t zero) (every n (λ k. t (suc k))) (h zero (omega arith)) (every_of n (λ k. t (suc k)) (λ k l. h (suc k) (omega arith)))
+
+-- the library's test of all, which an iterator's `all` gives
+pub each_all : {A : Type 0} (t : A → Bool) (l : List A) → each t l ≡ list_all t l
+each_all t [] = refl
+each_all t (a ∷ l) = ap (λ (b : Bool). t a && b) (each_all t l)
 
 pub each-++ : {A : Type 0} (t : A → Bool) (l m : List A) → each t (l ++ m) ≡ (each t l && each t m)
 each-++ t [] m = refl
