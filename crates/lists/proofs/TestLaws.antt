@@ -6,7 +6,6 @@ use Prim.Native.Nat.{ℕ, zero, suc, ◌<◌}
 use native.Mathlib.Omega.{arith}
 use lib.Dec.{T}
 use lib.ListN.{get_or, take, drop}
-use Rattle.std.specs.List.{list_all}
 use Rattle.lists.specs.Lists.{up_to}
 use Rattle.lists.specs.Tests.{hold, every, each, Each, none, ◌&◌}
 
@@ -61,16 +60,11 @@ pub every_of : (n : ℕ) (t : ℕ → Bool) → ((k : ℕ) → k < n → T (t k)
 every_of zero t h = tt
 every_of (suc n) t h = pair (t zero) (every n (λ k. t (suc k))) (h zero (omega arith)) (every_of n (λ k. t (suc k)) (λ k l. h (suc k) (omega arith)))
 
--- the library's test of all, which an iterator's `all` gives
-pub each_all : {A : Type 0} (t : A → Bool) (l : List A) → each t l ≡ list_all t l
-each_all t [] = refl
-each_all t (a ∷ l) = ap (λ (b : Bool). t a && b) (each_all t l)
-
 pub each-++ : {A : Type 0} (t : A → Bool) (l m : List A) → each t (l ++ m) ≡ (each t l && each t m)
 each-++ t [] m = refl
 each-++ t (a ∷ l) m = rw (each-++ t l m) (sym (and_assoc (t a) (each t l) (each t m)))
 
-pub each_up_to {ℓ} : {A : Type ℓ} (t : A → Bool) (n : ℕ) (f : ℕ → A) → T (each t (up_to n f)) → (k : ℕ) → k < n → T (t (f k))
+pub each_up_to : {A : Type 0} (t : A → Bool) (n : ℕ) (f : ℕ → A) → T (each t (up_to n f)) → (k : ℕ) → k < n → T (t (f k))
 unfolding up_to
 each_up_to t zero f h k l = absurd (omega arith)
 each_up_to t (suc n) f h zero l = (split (t (f zero)) (each t (up_to n (λ i. f (suc i)))) h).0
