@@ -63,8 +63,7 @@ fn check_sums(s: &[u8]) -> Sums
 }
 
 // Whether the last two bytes of a block are its check.
-pub fn checked(s: &[u8]) -> bool
-    requires { length s.now ≡ 512 }
+pub fn checked(s: &[u8; 512]) -> bool
     ensures { result ≡ checked_of s.now }
 {
     let c = check_sums(&s[..510]);

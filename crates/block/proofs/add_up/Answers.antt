@@ -1,6 +1,5 @@
 -- `block::add_up` meets its contract. The loop's invariant: a and b are the sums of the first j columns, and no larger than j of 16 bits make them.
 use borrow.Author.Rules.{rules}
-use mathlib.Core.Path.{◌≡◌}
 use Prim.Native.Nat.{◌<◌}
 use native.Mathlib.Omega.{arith}
 use lib.ListN.{length, get_or}
