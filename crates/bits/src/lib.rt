@@ -2,8 +2,10 @@
 
 #![tactic(auto)]
 
-ghost use Rattle.std.specs.Prelude.{◌≡◌, ◌&&◌, ◌||◌, cond};
-ghost use Rattle.bits.specs.Bits.{bits_of, mask_of, either as either_of, both as both_of, without as without_of, some as some_of};
+ghost use Rattle.std.specs.Prelude.{◌≡◌};
+ghost use Rattle.bits.specs.Bits.{bits_of, mask_of, either, both, without, some};
+
+use std::ops::{BitAnd, BitOr, Sub};
 
 // Bits 0, 1 and 2.
 #[derive(Clone, Copy)]
@@ -13,78 +15,78 @@ pub struct Bits {
     pub b2: bool,
 }
 
-// Those of a number.
-pub fn bits_of(n: u8) -> Bits
-    ensures { result ≡ bits_of n }
-{
-    Bits {
-        b0: n % 2 == 1,
-        b1: n / 2 % 2 == 1,
-        b2: n / 4 % 2 == 1,
+// The low three bits of a number.
+impl From<u8> for Bits {
+    ghost from_gives = { λ n b. b ≡ bits_of n };
+
+    fn from(n: u8) -> Bits {
+        Bits {
+            b0: n % 2 == 1,
+            b1: n / 2 % 2 == 1,
+            b2: n / 4 % 2 == 1,
+        }
     }
 }
 
-fn bit(b: bool, n: u8) -> u8
-    ensures { result ≡ cond b n 0 }
-{
-    if b { n } else { 0 }
-}
-
 // The number of three bits: the sum of 1, 2, 4.
-pub fn mask_of(b: Bits) -> u8
-    ensures { result ≡ mask_of b }
-{
-    bit(b.b0, 1) + (bit(b.b1, 2) + bit(b.b2, 4))
-}
+impl From<Bits> for u8 {
+    ghost from_gives = { λ b n. n ≡ mask_of b };
 
-fn or(a: bool, b: bool) -> bool
-    ensures { result ≡ (a || b) }
-{
-    if a { true } else { b }
-}
-
-fn and(a: bool, b: bool) -> bool
-    ensures { result ≡ (a && b) }
-{
-    if a { b } else { false }
+    fn from(b: Bits) -> u8 {
+        u8::from(b.b0) + 2 * u8::from(b.b1) + 4 * u8::from(b.b2)
+    }
 }
 
 // The bits of either, bit by bit.
-pub fn either(a: Bits, b: Bits) -> Bits
-    ensures { result ≡ either_of a b }
-{
-    Bits {
-        b0: or(a.b0, b.b0),
-        b1: or(a.b1, b.b1),
-        b2: or(a.b2, b.b2),
+impl BitOr for Bits {
+    type Output = Bits;
+
+    ghost bitor_gives = { λ a b r. r ≡ either a b };
+
+    fn bitor(self, other: Bits) -> Bits {
+        Bits {
+            b0: self.b0 || other.b0,
+            b1: self.b1 || other.b1,
+            b2: self.b2 || other.b2,
+        }
     }
 }
 
 // The bits that are in both.
-pub fn both(a: Bits, b: Bits) -> Bits
-    ensures { result ≡ both_of a b }
-{
-    Bits {
-        b0: and(a.b0, b.b0),
-        b1: and(a.b1, b.b1),
-        b2: and(a.b2, b.b2),
+impl BitAnd for Bits {
+    type Output = Bits;
+
+    ghost bitand_gives = { λ a b r. r ≡ both a b };
+
+    fn bitand(self, other: Bits) -> Bits {
+        Bits {
+            b0: self.b0 && other.b0,
+            b1: self.b1 && other.b1,
+            b2: self.b2 && other.b2,
+        }
     }
 }
 
-// The bits of a that are not in b.
-pub fn without(a: Bits, b: Bits) -> Bits
-    ensures { result ≡ without_of a b }
-{
-    Bits {
-        b0: and(a.b0, !b.b0),
-        b1: and(a.b1, !b.b1),
-        b2: and(a.b2, !b.b2),
+// The bits of the first that are not in the second.
+impl Sub for Bits {
+    type Output = Bits;
+
+    ghost sub_gives = { λ a b r. r ≡ without a b };
+
+    fn sub(self, other: Bits) -> Bits {
+        Bits {
+            b0: self.b0 && !other.b0,
+            b1: self.b1 && !other.b1,
+            b2: self.b2 && !other.b2,
+        }
     }
 }
 
-// Whether one of the three is set.
-pub fn some(b: Bits) -> bool
-    ensures { result ≡ some_of b }
-{
-    or(b.b0, or(b.b1, b.b2))
+impl Bits {
+    // Whether one of the three is set.
+    pub fn some(self) -> bool
+        ensures { result ≡ some self }
+    {
+        self.b0 || self.b1 || self.b2
+    }
 }

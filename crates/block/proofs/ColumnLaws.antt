@@ -125,11 +125,11 @@ module _ {s sums rows : List ℕ} {at j : ℕ} (h : Added s sums rows at j) wher
       }
 
   -- the end of a row is the start of the next
-  pub added_row : j ≡ 34 → Added s sums rows (at + 34) 0
+  pub added_row : j ≡ 34 → {next : ℕ} → next ≡ at + 34 → Added s sums rows next 0
   unfolding total
-  added_row e =
+  added_row e {next} f =
       let all : total (take j sums) ≡ total sums = ap total (take_all j sums (omega (arith, h.all_sums))) in
-      let place : at + 34 + 0 ≡ at + j = omega arith in
+      let place : next + 0 ≡ at + j = omega arith in
       record {
         row = omega (arith, h.row);
         all_sums = h.all_sums;

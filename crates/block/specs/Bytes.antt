@@ -1,5 +1,5 @@
 -- Little-endian numbers (the low byte first; a sample is a signed 16-bit number, § Words and units), and runs of zero bytes.
-use Rattle.std.specs.Prelude.{◌≡◌, Bool, cond, List, [], ◌∷◌, ℕ, ◌+◌, ◌*◌, ◌-◌, ◌/◌, ◌%◌, ◌<◌, ltb, eqb, ℤ, pos, negsuc, ◌-ℤ◌, get_or}
+use Rattle.std.specs.Prelude.{Bool, cond, List, [], ◌∷◌, ℕ, ◌+◌, ◌*◌, ◌-◌, ◌/◌, ◌%◌, ltb, eqb, ℤ, pos, negsuc, ◌-ℤ◌, get_or}
 use Rattle.lists.specs.Tests.{each}
 
 -- ---- numbers read from bytes
@@ -40,8 +40,3 @@ zeros s = each (λ x. eqb x 0) s
 -- each number of the list is a byte
 abbrev pub are_bytes : List ℕ → Bool
 are_bytes s = each (λ x. ltb x 256) s
-
--- a byte in a wider type
-pub record ByteOf (x r : ℕ) : Type 0 where
-  pub is : r ≡ x
-  pub small : r < 256

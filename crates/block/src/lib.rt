@@ -3,7 +3,7 @@
 #![tactic(auto)]
 
 ghost use Rattle.std.specs.Prelude.{◌≡◌, ◌+◌, ◌≤◌, ◌<◌, ◌%◌, length, take};
-ghost use Rattle.block.specs.Bytes.{u16_at, u32_at, signed as signed_of, i16_at, bytes16, bytes32, bits as bits_of, zeros as zeros_of, ByteOf};
+ghost use Rattle.block.specs.Bytes.{u16_at, u32_at, signed as signed_of, i16_at, bytes16, bytes32, bits as bits_of, zeros as zeros_of};
 ghost use Rattle.block.specs.Block.{sums_of, checked as checked_of, sealed, buffer_with};
 ghost use Rattle.block.specs.Columns.{column_sums};
 
@@ -12,18 +12,6 @@ ghost use Rattle.block.specs.Columns.{column_sums};
 pub struct Sums {
     pub a: u8,
     pub b: u8,
-}
-
-fn wide(x: u8) -> u16
-    ensures { ByteOf x result }
-{
-    x as u16
-}
-
-fn wider(x: u8) -> u32
-    ensures { ByteOf x result }
-{
-    x as u32
 }
 
 // The 510 bytes under the check as 15 rows of 34: the sum of each column, and the sum of what that sum was before each row.
@@ -40,22 +28,13 @@ fn by_columns(s: &[u8]) -> Columns
 {
     let mut sums = [0u16; 34];
     let mut rows = [0u16; 34];
-    let mut start: usize = 0;
-    while start < 510 {
-        let mut j: usize = 0;
-        while j < 34 {
-            let i = start + j;
-            let c = sums[j];
-            rows[j] = rows[j] + c;
-            sums[j] = c + wide(s[i]);
-            j += 1;
+    for row in 0..15 {
+        for j in 0..34 {
+            rows[j] += sums[j];
+            sums[j] += u16::from(s[34 * row + j]);
         }
-        start += 34;
     }
-    Columns {
-        sums: sums,
-        rows: rows,
-    }
+    Columns { sums, rows }
 }
 
 // The check's sums from those of the columns: a byte is in b 34 times for each row after its own, and once for each column from its own on.
@@ -63,15 +42,11 @@ fn by_columns(s: &[u8]) -> Columns
 fn add_up(c: Columns) -> Sums
     ensures { result ≡ column_sums c }
 {
-    let sums = c.sums;
-    let rows = c.rows;
     let mut a: u32 = 0;
     let mut b: u32 = 0;
-    let mut j: usize = 0;
-    while j < 34 {
-        a += sums[j] as u32;
-        b += a + 34 * (rows[j] as u32);
-        j += 1;
+    for j in 0..34 {
+        a += u32::from(c.sums[j]);
+        b += a + 34 * u32::from(c.rows[j]);
     }
     Sums {
         a: (a % 255) as u8,
@@ -88,15 +63,11 @@ fn check_sums(s: &[u8]) -> Sums
 }
 
 // Whether the last two bytes of a block are its check.
-pub fn checked(s: &[u8]) -> bool
-    requires { length s.now ≡ 512 }
+pub fn checked(s: &[u8; 512]) -> bool
     ensures { result ≡ checked_of s.now }
 {
     let c = check_sums(&s[..510]);
-    if s[510] != c.a {
-        return false;
-    }
-    s[511] == c.b
+    s[510] == c.a && s[511] == c.b
 }
 
 // The block with its check put in.
@@ -115,20 +86,15 @@ pub fn place(buffer: &mut [u8], b: [u8; 512])
     requires { 512 ≤ length buffer.old }
     ensures { buffer.new ≡ buffer_with buffer.old b }
 {
-    buffer[..512].copy_from_slice(&b[0..512]);
+    buffer[..512].copy_from_slice(&b);
 }
 
-// Whether every byte is zero, by their sum: a loop with no way out, which the compiler takes many bytes at a time.
+// Whether every byte is zero, by their sum: all are looked at, many at a time.
 pub fn zeros(s: &[u8]) -> bool
     requires { length s.now ≤ 512 }
     ensures { result ≡ zeros_of s.now }
 {
-    let mut sum: u32 = 0;
-    let mut at: usize = 0;
-    while at < s.len() {
-        sum += wider(s[at]);
-        at += 1;
-    }
+    let sum: u32 = s.iter().map(|x| u32::from(*x)).sum();
     sum == 0
 }
 
@@ -137,7 +103,7 @@ pub fn u16_at(s: &[u8], at: usize) -> u16
     requires { at + 1 < length s.now }
     ensures { result ≡ u16_at s.now at }
 {
-    wide(s[at]) + 256 * wide(s[at + 1])
+    u16::from_le_bytes([s[at], s[at + 1]])
 }
 
 // The number of four bytes from a place on.
@@ -145,18 +111,14 @@ pub fn u32_at(s: &[u8], at: usize) -> u32
     requires { at + 3 < length s.now }
     ensures { result ≡ u32_at s.now at }
 {
-    wider(s[at]) + 256 * wider(s[at + 1]) + 65536 * wider(s[at + 2]) + 16777216 * wider(s[at + 3])
+    u32::from_le_bytes([s[at], s[at + 1], s[at + 2], s[at + 3]])
 }
 
 // The signed number whose 16 bits are n.
 pub fn signed(n: u16) -> i16
     ensures { result ≡ signed_of n }
 {
-    if n < 32768 {
-        n as i16
-    } else {
-        -1 - (65535 - n) as i16
-    }
+    n.cast_signed()
 }
 
 // The signed number of two bytes from a place on.
@@ -171,26 +133,21 @@ pub fn i16_at(s: &[u8], at: usize) -> i16
 pub fn bits(x: i16) -> u16
     ensures { result ≡ bits_of x }
 {
-    ((((x as i32) + 65536) as u32) % 65536) as u16
+    x.cast_unsigned()
 }
 
 // The two bytes of a number.
-pub fn bytes_16(x: u16) -> [u8; 2]
-    ensures { result ≡ bytes16 x }
+pub fn bytes_16(n: u16) -> [u8; 2]
+    ensures { result ≡ bytes16 n }
 {
-    [(x % 256) as u8, (x / 256 % 256) as u8]
+    n.to_le_bytes()
 }
 
 // The four bytes of a number.
 pub fn bytes_32(x: u32) -> [u8; 4]
     ensures { result ≡ bytes32 x }
 {
-    [
-        (x % 256) as u8,
-        (x / 256 % 256) as u8,
-        (x / 65536 % 256) as u8,
-        (x / 16777216 % 256) as u8,
-    ]
+    x.to_le_bytes()
 }
 
 // The two bytes of a signed number.

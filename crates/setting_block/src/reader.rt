@@ -9,20 +9,10 @@ ghost use Rattle.setting.specs.Values.{lowest};
 use refusal::Refusal;
 use setting::{End, Overcurrent, Setting, Thresholds, judging};
 
-fn marked(s: &[u8]) -> bool
-    requires { length s.now ≡ 512 }
+fn marked(s: &[u8; 512]) -> bool
     ensures { result ≡ marked_of s.now }
 {
-    if s[0] != 0x54 {
-        return false;
-    }
-    if s[1] != 0x44 {
-        return false;
-    }
-    if s[2] != 0x50 {
-        return false;
-    }
-    s[3] == 0x31
+    s.starts_with(b"TDP1")
 }
 
 fn end_at(s: &[u8], at: usize) -> End
@@ -37,38 +27,31 @@ fn end_at(s: &[u8], at: usize) -> End
     }
 }
 
-fn setting_at(s: &[u8]) -> Setting
-    requires { length s.now ≡ 512 }
+fn setting_at(s: &[u8; 512]) -> Setting
     ensures { result ≡ setting_at s.now }
 {
-    let e0 = end_at(s, 12);
-    let e1 = end_at(s, 24);
-    let e2 = end_at(s, 36);
-    let e3 = end_at(s, 48);
-    let t = Thresholds {
-        basic: block::u16_at(s, 60),
-        high: block::u16_at(s, 62),
-        slope1: block::u16_at(s, 64),
-        slope2: block::u16_at(s, 66),
-        knee: block::u16_at(s, 68),
-        second: block::u16_at(s, 70),
-        fifth: block::u16_at(s, 72),
-    };
-    let o = Overcurrent {
-        pickup: block::u16_at(s, 74),
-        curve: s[76],
-    };
     Setting {
         ends: s[4],
         flags: s[5],
         confirm: s[6],
         power: block::u32_at(s, 8),
-        e0: e0,
-        e1: e1,
-        e2: e2,
-        e3: e3,
-        thresholds: t,
-        overcurrent: o,
+        e0: end_at(s, 12),
+        e1: end_at(s, 24),
+        e2: end_at(s, 36),
+        e3: end_at(s, 48),
+        thresholds: Thresholds {
+            basic: block::u16_at(s, 60),
+            high: block::u16_at(s, 62),
+            slope1: block::u16_at(s, 64),
+            slope2: block::u16_at(s, 66),
+            knee: block::u16_at(s, 68),
+            second: block::u16_at(s, 70),
+            fifth: block::u16_at(s, 72),
+        },
+        overcurrent: Overcurrent {
+            pickup: block::u16_at(s, 74),
+            curve: s[76],
+        },
     }
 }
 
@@ -80,8 +63,7 @@ fn few_spares() -> [u16; 9]
 }
 
 // The first byte that must be zero and is not: one of the few, or from 77 on, where most blocks have nothing but zeros.
-fn spare_fault(s: &[u8]) -> Option<u16>
-    requires { length s.now ≡ 512 }
+fn spare_fault(s: &[u8; 512]) -> Option<u16>
     ensures { result ≡ lowest (spares s.now) }
 {
     let few = few_spares();
@@ -99,17 +81,17 @@ fn spare_fault(s: &[u8]) -> Option<u16>
 pub fn read_setting(s: &[u8]) -> Result<Setting, Refusal>
     ensures { Reads s.now result }
 {
-    if s.len() != 512 {
+    let Ok(b) = <&[u8; 512]>::try_from(s) else {
         return Err(Refusal::Length);
-    }
-    if !block::checked(s) {
+    };
+    if !block::checked(b) {
         return Err(Refusal::Check);
     }
-    if !marked(s) {
+    if !marked(b) {
         return Err(Refusal::Mark);
     }
-    let v = setting_at(s);
-    judging::verdict_beside(v, spare_fault(s))?;
+    let v = setting_at(b);
+    judging::verdict_beside(v, spare_fault(b))?;
     Ok(v)
 }
 

@@ -1,7 +1,6 @@
 // The setting block, written; and that reading and writing undo each other.
 
 ghost use Rattle.std.specs.Prelude.{◌≡◌, ◌+◌, ◌≤◌, length};
-ghost use Rattle.block.specs.Bytes.{bytes16, bytes32};
 ghost use Rattle.setting_block.specs.Layout.{Laid, end_bytes, block_of};
 ghost use Rattle.setting_block.specs.Calls.{Writes};
 ghost use Rattle.setting_block.specs.RoundTrip.{ReadThenWrite, WriteThenRead};
@@ -9,67 +8,47 @@ ghost use Rattle.setting_block.specs.RoundTrip.{ReadThenWrite, WriteThenRead};
 use refusal::Refusal;
 use setting::{End, Setting, judging};
 
-// A block with some bytes put at a place; with a number of two bytes, of four, with an end.
-fn put(b: [u8; 512], at: usize, piece: &[u8]) -> [u8; 512]
+// Puts some bytes at a place of a block.
+fn put(b: &mut [u8; 512], at: usize, piece: &[u8])
     requires { at + length piece.now ≤ 512 }
-    ensures { Laid b at piece.now result }
+    ensures { Laid b.old at piece.now b.new }
 {
-    let mut t = b;
-    let mut k: usize = 0;
-    while k < piece.len() {
-        let i = at + k;
-        let x = piece[k];
-        t[i] = x;
-        k += 1;
-    }
-    t
+    b[at..at + piece.len()].copy_from_slice(piece);
 }
 
-fn put_16(b: [u8; 512], at: usize, x: u16) -> [u8; 512]
-    requires { at ≤ 510 }
-    ensures { Laid b at (bytes16 x) result }
-{
-    put(b, at, &block::bytes_16(x))
-}
-
-fn put_32(b: [u8; 512], at: usize, x: u32) -> [u8; 512]
-    requires { at ≤ 508 }
-    ensures { Laid b at (bytes32 x) result }
-{
-    put(b, at, &block::bytes_32(x))
-}
-
-fn put_end(b: [u8; 512], at: usize, e: End) -> [u8; 512]
+// Puts an end at a place.
+fn put_end(b: &mut [u8; 512], at: usize, e: End)
     requires { at ≤ 500 }
-    ensures { Laid b at (end_bytes e) result }
+    ensures { Laid b.old at (end_bytes e) b.new }
 {
-    let b = put_32(b, at, e.voltage);
-    let b = put_32(b, at + 4, e.current);
-    put(b, at + 8, &[e.group, e.filter, 0, 0])
+    put(b, at, &e.voltage.to_le_bytes());
+    put(b, at + 4, &e.current.to_le_bytes());
+    put(b, at + 8, &[e.group, e.filter, 0, 0]);
 }
 
 // The block of setting values.
 fn block_of(v: Setting) -> [u8; 512]
     ensures { result ≡ block_of v }
 {
-    let mark = [0x54, 0x44, 0x50, 0x31, v.ends, v.flags, v.confirm, 0];
-    let b = put([0; 512], 0, &mark);
-    let b = put_32(b, 8, v.power);
-    let b = put_end(b, 12, v.e0);
-    let b = put_end(b, 24, v.e1);
-    let b = put_end(b, 36, v.e2);
-    let b = put_end(b, 48, v.e3);
+    let mut b = [0; 512];
+    put(&mut b, 0, b"TDP1");
+    put(&mut b, 4, &[v.ends, v.flags, v.confirm, 0]);
+    put(&mut b, 8, &v.power.to_le_bytes());
+    put_end(&mut b, 12, v.e0);
+    put_end(&mut b, 24, v.e1);
+    put_end(&mut b, 36, v.e2);
+    put_end(&mut b, 48, v.e3);
     let t = v.thresholds;
-    let b = put_16(b, 60, t.basic);
-    let b = put_16(b, 62, t.high);
-    let b = put_16(b, 64, t.slope1);
-    let b = put_16(b, 66, t.slope2);
-    let b = put_16(b, 68, t.knee);
-    let b = put_16(b, 70, t.second);
-    let b = put_16(b, 72, t.fifth);
+    put(&mut b, 60, &t.basic.to_le_bytes());
+    put(&mut b, 62, &t.high.to_le_bytes());
+    put(&mut b, 64, &t.slope1.to_le_bytes());
+    put(&mut b, 66, &t.slope2.to_le_bytes());
+    put(&mut b, 68, &t.knee.to_le_bytes());
+    put(&mut b, 70, &t.second.to_le_bytes());
+    put(&mut b, 72, &t.fifth.to_le_bytes());
     let o = v.overcurrent;
-    let b = put_16(b, 74, o.pickup);
-    let b = put(b, 76, &[o.curve]);
+    put(&mut b, 74, &o.pickup.to_le_bytes());
+    put(&mut b, 76, &[o.curve]);
     block::seal(b)
 }
 

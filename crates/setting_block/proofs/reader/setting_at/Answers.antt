@@ -13,10 +13,10 @@ returns c =
       flags = get_or s 5 0;
       confirm = get_or s 6 0;
       power = c.u32_at.ensures i;
-      e0 = c.end_at-e0.ensures i;
-      e1 = c.end_at-e1.ensures i;
-      e2 = c.end_at-e2.ensures i;
-      e3 = c.end_at-e3.ensures i;
+      e0 = c.end_at.ensures i;
+      e1 = c.end_at-2.ensures i;
+      e2 = c.end_at-3.ensures i;
+      e3 = c.end_at-4.ensures i;
       thresholds =
           record {
             basic = c.u16_at.ensures i;

@@ -12,6 +12,7 @@ use Rattle.std.proofs.lemmas.Iterator.Search.{find_from_yields_List, position_fr
 use Rattle.setting.specs.Values.{lowest}
 use Rattle.setting_block.specs.Layout.{few_spares, spares}
 use Rattle.setting_block.proofs.SpareLaws.{some_bit, set_at, run, lowest_is, run_is, run_zero}
+use lib.ListN.{length}
 use Rattle.setting_block.proofs.reader.spare_fault.Goals as goal
 use Rattle.setting_block.proofs.reader.spare_fault.Goals.{After-find, After-position}
 
@@ -41,16 +42,19 @@ place c =
 
 pub returns-then-zeros : goal.returns-then-zeros
 returns-then-zeros c =
-    sym (rest (goal.at.returns-then-zeros c).After-find c.in_default.is ∙ run_zero c.args.s.now c.requires (sym c.zeros.ensures ∙ c.if-zeros.true))
+    let long : length c.args.s.now ≡ 512 = search rules in
+    sym (rest (goal.at.returns-then-zeros c).After-find c.in_default.is ∙ run_zero c.args.s.now long (sym c.zeros.ensures ∙ c.if-zeros.true))
 
 pub returns-in_err-k : goal.returns-in_err-k
 returns-in_err-k c =
+    let long : length c.args.s.now ≡ 512 = search rules in
     let at = goal.at.returns-in_err-k c in
     let none = rw c.in_err-k.was at (place at.After-position) in
-    c.from_residual.ensures ∙ sym (rest at.After-find c.in_default.is ∙ run_is c.args.s.now c.requires ∙ rw (← none))
+    c.from_residual.ensures ∙ sym (rest at.After-find c.in_default.is ∙ run_is c.args.s.now long ∙ rw (← none))
 
 pub returns : goal.returns
 returns c =
+    let long : length c.args.s.now ≡ 512 = search rules in
     let at = goal.at.returns c in
     let some = rw c.in_ok-k.was at (place at.After-position) in
-    sym (rest at.After-find c.in_default.is ∙ run_is c.args.s.now c.requires ∙ rw (← some))
+    sym (rest at.After-find c.in_default.is ∙ run_is c.args.s.now long ∙ rw (← some))

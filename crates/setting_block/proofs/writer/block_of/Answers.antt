@@ -1,4 +1,5 @@
 -- `setting_block::writer::block_of` meets its contract: the pieces, put one after the other into a block of zeros, are the header, and zeros are left after it.
+-- The bytes of a number are those that `to_le_bytes` ensures.
 use mathlib.Core.Path.{◌∙◌}
 use Rattle.setting_block.specs.Layout.{header}
 use Rattle.setting_block.proofs.WriterCases.{◌then◌, header_sealed}
@@ -11,18 +12,19 @@ returns c =
     c.seal.ensures
     ∙ header_sealed
     c.args.v
-    (c.put-b.ensures
-    then c.put_32-b.ensures
-    then c.put_end-b.ensures
-    then c.put_end-b-2.ensures
-    then c.put_end-b-3.ensures
-    then c.put_end-b-4.ensures
-    then c.put_16-b.ensures
-    then c.put_16-b-2.ensures
-    then c.put_16-b-3.ensures
-    then c.put_16-b-4.ensures
-    then c.put_16-b-5.ensures
-    then c.put_16-b-6.ensures
-    then c.put_16-b-7.ensures
-    then c.put_16-b-8.ensures
-    then c.put-b-2.ensures)
+    (c.put.ensures
+    then c.put-2.ensures
+    then (rw c.to_le_bytes.ensures at c.put-3.ensures)
+    then c.put_end.ensures
+    then c.put_end-2.ensures
+    then c.put_end-3.ensures
+    then c.put_end-4.ensures
+    then (rw c.to_le_bytes-2.ensures at c.put-4.ensures)
+    then (rw c.to_le_bytes-3.ensures at c.put-5.ensures)
+    then (rw c.to_le_bytes-4.ensures at c.put-6.ensures)
+    then (rw c.to_le_bytes-5.ensures at c.put-7.ensures)
+    then (rw c.to_le_bytes-6.ensures at c.put-8.ensures)
+    then (rw c.to_le_bytes-7.ensures at c.put-9.ensures)
+    then (rw c.to_le_bytes-8.ensures at c.put-10.ensures)
+    then (rw c.to_le_bytes-9.ensures at c.put-11.ensures)
+    then c.put-12.ensures)
