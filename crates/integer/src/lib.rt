@@ -8,17 +8,13 @@ ghost use Rattle.lists.specs.Tests.{each};
 ghost use Rattle.integer.specs.Nearest.{Divides, nearest as nearest_of, nearest_away};
 ghost use Rattle.integer.specs.Root.{step as step_of, start as start_of, FindsRoot, FewTurns};
 
-// a / b to the nearest whole number; a half goes up. The machine rounds a quotient toward zero:
-// where the remainder is negative, that is one too many.
+// a / b to the nearest whole number; a half goes up.
 pub fn nearest(a: i64, b: u64) -> i64
     requires { Divides a b }
     ensures { result ≡ nearest_of a b }
 {
     let d = b as i64;
-    let t = 2 * a + d;
-    let m = 2 * d;
-    let q = t / m;
-    if t % m < 0 { q - 1 } else { q }
+    (2 * a + d).div_euclid(2 * d)
 }
 
 // a / b to the nearest whole number; a half goes away from zero. The machine rounds a quotient
