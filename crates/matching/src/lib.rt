@@ -28,12 +28,17 @@ pub struct Three {
     pub q: i64,
 }
 
-// The three as the next phase sees them.
-fn from_next(x: Three) -> Three
-    ensures { result ≡ from_next x }
-{
-    let Three { p, n, q } = x;
-    Three { p: n, n: q, q: p }
+impl Three {
+    // The three as the next phase sees them.
+    fn from_next(self) -> Three
+        ensures { result ≡ from_next self }
+    {
+        Three {
+            p: self.n,
+            n: self.q,
+            q: self.p,
+        }
+    }
 }
 
 // The group operation T(g).
@@ -140,8 +145,8 @@ fn matched_at(ends: u8, ws: [i64; 12], z: u8, set: &[i16]) -> Trio
         n: i64::from(set[at + 1]),
         q: i64::from(set[at + 2]),
     };
-    let b = from_next(a);
-    let c = from_next(b);
+    let b = a.from_next();
+    let c = b.from_next();
     Trio {
         a: matched(w, a),
         b: matched(w, b),
