@@ -11,7 +11,7 @@ fn joined(a: i32, b: i32) -> i64
     requires { PairInput a b }
     ensures { JoinOf a b result }
 {
-    780 * (a as i64) + 1351 * (b as i64)
+    780 * i64::from(a) + 1351 * i64::from(b)
 }
 
 // c² or s²: the sum divided by 9,360, to the nearest, a half away from zero, and squared.
@@ -28,8 +28,7 @@ pub fn amplitude(c: i32, c3: i32, s: i32, s3: i32) -> u32
     requires { PartsInput c c3 s s3 }
     ensures { OfParts c c3 s s3 result }
 {
-    let found = integer::root(squared(joined(c, c3)) + squared(joined(s, s3)));
-    found.root as u32
+    integer::root(squared(joined(c, c3)) + squared(joined(s, s3))).root as u32
 }
 
 // The limits 45, 69 and 91: no code, the statement and its proof.

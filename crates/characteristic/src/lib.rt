@@ -4,7 +4,6 @@
 
 ghost use Rattle.std.specs.Prelude.{◌≡◌, ◌&&◌, ◌||◌, ◌+◌, ◌*◌, ◌≤◌, ltb};
 ghost use Rattle.characteristic.specs.Characteristic.{starts as starts_of, has_harmonics, held_by, counts as counts_of};
-ghost use Rattle.characteristic.specs.Products.{Wide, Product};
 ghost use Rattle.characteristic.specs.Bound.{QuietBound};
 ghost use Rattle.characteristic.specs.Slopes.{NotMoreEager, FallingEager, FallenEager};
 ghost use Rattle.characteristic.specs.OneEnd.{StartsAboveP, BlindBySlope1, BlindBySlope2};
@@ -27,23 +26,12 @@ pub struct Held {
     pub others: bool,
 }
 
-fn wide(x: u16) -> u32
-    ensures { Wide x result }
-{
-    x as u32
-}
-
-fn product(m: u16, x: u32) -> u64
-    ensures { Product m x result }
-{
-    (m as u64) * (x as u64)
-}
-
 // Whether 200·D exceeds 200·P + m·x + n·y.
 fn past(d: u32, p: u32, m: u16, x: u32, n: u16, y: u32) -> bool
     ensures { result ≡ ltb (200 * p + m * x + n * y) (200 * d) }
 {
-    200 * (p as u64) + product(m, x) + product(n, y) < 200 * (d as u64)
+    200 * u64::from(p) + u64::from(m) * u64::from(x) + u64::from(n) * u64::from(y)
+        < 200 * u64::from(d)
 }
 
 // The three sections of the characteristic.
@@ -51,62 +39,42 @@ pub fn starts(v: Setting, c: Currents) -> bool
     requires { v.thresholds.basic ≤ 2 * v.thresholds.knee }
     ensures { result ≡ starts_of v c.d c.r }
 {
-    let p = wide(v.thresholds.basic);
-    let q = 2 * wide(v.thresholds.knee);
-    let r = c.r;
-    let d = c.d;
+    let t = v.thresholds;
+    let p = u32::from(t.basic);
+    let q = 2 * u32::from(t.knee);
+    let Currents { d, r, .. } = c;
     if r <= p {
         return p < d;
     }
     if r <= q {
-        return past(d, p, v.thresholds.slope1, r - p, 0, 0);
+        return past(d, p, t.slope1, r - p, 0, 0);
     }
-    past(d, p, v.thresholds.slope1, q - p, v.thresholds.slope2, r - q)
+    past(d, p, t.slope1, q - p, t.slope2, r - q)
 }
 
 // Whether a harmonic is looked at, and above its percent of D.
 fn harmonic(on: bool, percent: u16, d: u32, h: u32) -> bool
     ensures { result ≡ (on && ltb (percent * d) (100 * h)) }
 {
-    if on {
-        return product(percent, d) < 100 * (h as u64);
-    }
-    false
-}
-
-fn or(a: bool, b: bool) -> bool
-    ensures { result ≡ (a || b) }
-{
-    if a { true } else { b }
+    on && u64::from(percent) * u64::from(d) < 100 * u64::from(h)
 }
 
 // Whether a system has harmonics.
 fn harmonics(v: Setting, c: Currents) -> bool
     ensures { result ≡ has_harmonics v c.d c.h2 c.h5 }
 {
-    let second = harmonic(v.flags % 2 == 1, v.thresholds.second, c.d, c.h2);
-    let fifth = harmonic(v.flags / 2 % 2 == 1, v.thresholds.fifth, c.d, c.h5);
-    or(second, fifth)
+    harmonic(v.flags % 2 == 1, v.thresholds.second, c.d, c.h2)
+        || harmonic(v.flags / 2 % 2 == 1, v.thresholds.fifth, c.d, c.h5)
 }
 
-// Whether a system holds back others: it has harmonics, and D exceeds P.
-fn holds_back(harmonics: bool, p: u16, d: u32) -> bool
-    ensures { result ≡ (harmonics && ltb p d) }
-{
-    if harmonics {
-        return wide(p) < d;
-    }
-    false
-}
-
-// What the harmonics of a system hold back.
+// What the harmonics of a system hold back. Others it holds back where D exceeds P.
 pub fn blocking(v: Setting, c: Currents) -> Held
     ensures { result ≡ held_by v c.d c.h2 c.h5 }
 {
     let own = harmonics(v, c);
     Held {
-        own: own,
-        others: holds_back(own, v.thresholds.basic, c.d),
+        own,
+        others: own && u32::from(v.thresholds.basic) < c.d,
     }
 }
 
@@ -114,14 +82,7 @@ pub fn blocking(v: Setting, c: Currents) -> Held
 pub fn counts(v: Setting, d: u32, start: bool, blocked: bool) -> bool
     ensures { result ≡ counts_of v d start blocked }
 {
-    let above = (v.thresholds.high as u32) < d;
-    if start {
-        if blocked {
-            return above;
-        }
-        return true;
-    }
-    above
+    (start && !blocked) || u32::from(v.thresholds.high) < d
 }
 
 // A D as small as a healthy bank's starts nothing and counts nowhere: no code, the statement and its proof.

@@ -2,12 +2,12 @@
 use mathlib.Core.Path.{◌≡◌}
 use mathlib.Core.Bool.{true}
 use Prim.Native.Nat.{ℕ, suc, ◌^◌, ◌<◌}
-use native.Mathlib.Nat.{le_trans, div-le_self, mod-le}
+use native.Mathlib.Nat.{le_trans, div-le_self}
 use native.Mathlib.Omega.{arith}
 use lib.Dec.{ltb}
 use borrow.Author.Tests.{ltb-true}
 use lib.IntN.{ℤ, pos, negsuc}
-use lib.Signed.{mag, quot_z, rem_z}
+use lib.Signed.{mag, quot_z}
 use mir.Syntax.{Width}
 use mir.Val.{SFits, hbits, to_z, of_z}
 use mir.ValLaws.{to_z-of_z}
@@ -35,7 +35,3 @@ back_ok w x h = to_z-of_z w x (record { sfits = h })
 pub quot_within : {x : ℤ} {n : ℕ} → x within n → (m : ℕ) → quot_z x (pos m) within n
 quot_within {x = pos a} h m = record { size = le_trans (div-le_self a m) h.size }
 quot_within {x = negsuc a} h m = record { size = rw nat_abs_neg (le_trans (div-le_self (suc a) m) h.size) }
-
-pub rem_within : {x : ℤ} {n : ℕ} → x within n → (m : ℕ) → rem_z x (pos m) within n
-rem_within {x = pos a} h m = record { size = le_trans (mod-le a m) h.size }
-rem_within {x = negsuc a} h m = record { size = rw nat_abs_neg (le_trans (mod-le (suc a) m) h.size) }

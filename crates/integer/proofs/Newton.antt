@@ -1,13 +1,15 @@
 -- Newton's iteration for the root (§ Amplitudes 5). A step from any number above 0 is not below the root; from above the root it is smaller, and
 -- at least halves the distance to it. So the turns are at most the binary digits of that distance, and the start is no farther than n's own digits say.
 use mathlib.Core.Path.{◌≡◌, refl, ap, subst}
-use mathlib.Core.Bool.{Bool, true, false, not, cond}
+use mathlib.Core.Logic.{⊎_elim}
+use mathlib.Core.Bool.{Bool, true, false, not}
 use Prim.Native.Nat.{ℕ, zero, suc, ◌+◌, ◌*◌, ◌-◌, ◌/◌, ◌^◌, ◌≤◌, ◌<◌}
 use native.Mathlib.Nat.{mul-le-mul, div-lt_iff_lt-mul, le-div_iff_mul-le, div-le_self}
 use native.Mathlib.Omega.{arith}
 use lib.Dec.{T, leb, ltb, leb→le, nleb→lt, ltb→lt, nltb→le}
 use lib.Pow.{pow_mono, pow-add}
 use lib.Count.{leading_top}
+use Rattle.std.proofs.lemmas.Bool.{cases_lt}
 use Rattle.integer.specs.Root.{Root, root, digits, step, most, capped, start, reached, turns_from, turns_at, turns}
 
 -- ---- a step
@@ -170,13 +172,11 @@ module _ (n : ℕ) (some : 0 < n) (fits : n < 2 ^ 64) where
 
 -- the cap is no loss: the square of one more than it is past every n
 capped_above : (n r : ℕ) → n < 2 ^ 64 → n < (r + 1) * (r + 1) → (n < (capped r + 1) * (capped r + 1)) × (capped r ≤ most) × (capped r ≤ r)
-capped_above n r fits above = by (ltb most r) (ltb→lt _ _) (nltb→le _ _)
-  where
-    by : (t : Bool) → (T t → most < r) → (T (not t) → r ≤ most) → let c = cond t most r in (n < (c + 1) * (c + 1)) × (c ≤ most) × (c ≤ r)
-    by true y f = (omega arith, omega arith, omega (arith, y tt))
-    by false y f = (above, f tt, omega arith)
+capped_above n r fits above =
+    ⊎_elim (λ (over : most < r). let e : capped r ≡ most = omega arith in rw e (omega arith, omega arith, omega arith))
+    (λ (low : r ≤ most). let e : capped r ≡ r = omega arith in rw e (above, low, omega arith))
+    (cases_lt most r)
 
--- the start is not below the root, not above the largest root, and no farther from the root than n is from 0
 pub start_near : (n : ℕ) → 0 < n → n < 2 ^ 64 → (n < (start n + 1) * (start n + 1)) × (start n ≤ most) × (start n ≤ n + 1)
 unfolding start
 start_near n some fits =

@@ -1,11 +1,11 @@
--- `nearest` by its bounds: the law of division rounded down, that only one number has those bounds, and the machine's division; and `nearest_away` by that
--- division. What other crates may use of either stands in HalfUnit.antt.
+-- `nearest` by its bounds: the law of division rounded down, and that only one number has those bounds; and `nearest_away` by the machine's
+-- division, which is toward zero. What other crates may use of either stands in HalfUnit.antt.
 use mathlib.Core.Path.{◌≡◌, refl}
 use Prim.Native.Nat.{ℕ, suc, ◌+◌, ◌*◌, ◌<◌}
 use native.Mathlib.Nat.{div-add-mod, mod-lt}
 use native.Mathlib.Omega.{arith}
-use lib.IntN.{ℤ, pos, negsuc, nat_abs, ◌+ℤ◌, ◌*ℤ◌, ◌-ℤ◌}
-use lib.Signed.{◌≤ℤ◌, ◌<ℤ◌, quot_z, rem_z}
+use lib.IntN.{ℤ, pos, negsuc, ◌+ℤ◌, ◌*ℤ◌, ◌-ℤ◌}
+use lib.Signed.{◌≤ℤ◌, ◌<ℤ◌, quot_z}
 use Rattle.integer.specs.Within.{◌within◌}
 use Rattle.integer.specs.Nearest.{floor, nearest, nearest_away}
 use Rattle.integer.proofs.Reading.{ints, ◌⇒◌}
@@ -55,25 +55,7 @@ nearest_is a b h = floor_is (pos 2 *ℤ a +ℤ pos b) (2 * b) (omega arith)
 pub nearest_only : (a : ℤ) (b : ℕ) (q : ℤ) → 0 < b → Nearest a b q → q ≡ nearest a b
 nearest_only a b q h k = floor_only (pos 2 *ℤ a +ℤ pos b) q (nearest a b) (2 * b) k (nearest_is a b h)
 
--- ---- division toward zero, as the machine divides
-
-quot_rem : (z : ℤ) (m : ℕ) → pos m *ℤ quot_z z (pos m) +ℤ rem_z z (pos m) ≡ z
-quot_rem (pos a) m = simp ints (omega (arith, div-add-mod a m))
-quot_rem (negsuc a) m = simp ints (omega (arith, div-add-mod (suc a) m))
-
-rem_range : (z : ℤ) (m : ℕ) → 0 < m → nat_abs (rem_z z (pos m)) < m
-rem_range (pos a) m h = mod-lt a h
-rem_range (negsuc a) m h = simp ints (omega (arith, mod-lt (suc a) h))
-
--- one less where the remainder is negative: the division rounded down
-module _ (z : ℤ) (m : ℕ) (h : 0 < m) where
-  pub floor_less : rem_z z (pos m) <ℤ pos 0 → quot_z z (pos m) -ℤ pos 1 ≡ floor z m
-  floor_less k = floor_only z _ (floor z m) m (k ⇒ quot_rem z m ⇒ rem_range z m h ⇒ simp ints (omega arith)) (floor_is z m h)
-
-  pub floor_same : pos 0 ≤ℤ rem_z z (pos m) → quot_z z (pos m) ≡ floor z m
-  floor_same k = floor_only z _ (floor z m) m (k ⇒ quot_rem z m ⇒ rem_range z m h ⇒ simp ints (omega arith)) (floor_is z m h)
-
--- ---- a half away from zero: toward zero, with half a divisor more on the side of a
+-- ---- a half away from zero: the machine's division, with half a divisor more on the side of a
 
 -- b with the sign of a
 pub data Beside (a : ℤ) (b : ℕ) : ℤ → Type 0 where

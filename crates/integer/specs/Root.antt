@@ -1,5 +1,5 @@
 -- The whole square root (§ Amplitudes 4: the largest whole number whose square is at most n).
-use Rattle.std.specs.Prelude.{◌≡◌, Bool, true, false, cond, ℕ, zero, suc, ◌+◌, ◌*◌, ◌-◌, ◌/◌, ◌^◌, ◌≤◌, ◌<◌, leb, ltb}
+use Rattle.std.specs.Prelude.{◌≡◌, Bool, true, false, cond, ℕ, zero, suc, ◌+◌, ◌*◌, ◌-◌, ◌/◌, ◌^◌, ◌≤◌, ◌<◌, min, leb}
 use Rattle.std.specs.Int.Count.{count_leading_zeros}
 use Rattle.integer.specs.declared.Found.{Found}
 
@@ -36,7 +36,7 @@ abbrev pub most : ℕ
 most = 4294967295
 
 abbrev pub capped : ℕ → ℕ
-capped r = cond (ltb most r) most r
+capped r = min r most
 
 -- the start: one more than two steps from 2 to the power of half of n's digits
 unfoldable pub start : ℕ → ℕ

@@ -8,17 +8,13 @@ ghost use Rattle.lists.specs.Tests.{each};
 ghost use Rattle.integer.specs.Nearest.{Divides, nearest as nearest_of, nearest_away};
 ghost use Rattle.integer.specs.Root.{step as step_of, start as start_of, FindsRoot, FewTurns};
 
-// a / b to the nearest whole number; a half goes up. The machine rounds a quotient toward zero:
-// where the remainder is negative, that is one too many.
+// a / b to the nearest whole number; a half goes up.
 pub fn nearest(a: i64, b: u64) -> i64
     requires { Divides a b }
     ensures { result ≡ nearest_of a b }
 {
     let d = b as i64;
-    let t = 2 * a + d;
-    let m = 2 * d;
-    let q = t / m;
-    if t % m < 0 { q - 1 } else { q }
+    (2 * a + d).div_euclid(2 * d)
 }
 
 // a / b to the nearest whole number; a half goes away from zero. The machine rounds a quotient
@@ -53,9 +49,9 @@ fn start(x: u64) -> u64
     requires { 0 < x }
     ensures { result ≡ start_of x }
 {
-    let half = (64 - u64::leading_zeros(x)) / 2;
-    let r = step(x, step(x, 1u64 << half)) + 1;
-    if 4294967295 < r { 4294967295 } else { r }
+    let half = (64 - x.leading_zeros()) / 2;
+    let r = step(x, step(x, 1 << half)) + 1;
+    r.min(4294967295)
 }
 
 // The root of x: a step a turn for as long as r is above it, and no turn at 0.
@@ -66,15 +62,12 @@ pub fn root(x: u64) -> Found
         return Found { root: 0, turns: 0 };
     }
     let mut r = start(x);
-    let mut turns: u8 = 0;
+    let mut turns = 0;
     while x < r * r {
         r = step(x, r);
         turns += 1;
     }
-    Found {
-        root: r,
-        turns: turns,
-    }
+    Found { root: r, turns }
 }
 
 // No more turns than binary digits (§ Amplitudes 5): no code, the statement and its proof.
@@ -84,14 +77,9 @@ pub fn few_turns()
 
 // Whether |x| is at most a bound.
 fn within(x: i32, most: u32) -> bool
-    requires { most < 2 ^ 31 }
     ensures { result ≡ leb (nat_abs x) most }
 {
-    let high = most as i32;
-    if x < 0 - high {
-        return false;
-    }
-    x <= high
+    x.unsigned_abs() <= most
 }
 
 // Whether that holds of each number. All are looked at, so that the machine can take several side by side.
@@ -100,12 +88,8 @@ pub fn all_within(numbers: &[i32], most: u32) -> bool
     ensures { result ≡ each (λ x. leb (nat_abs x) most) numbers.now }
 {
     let mut all = true;
-    let mut i: usize = 0;
-    while i < numbers.len() {
-        if !within(numbers[i], most) {
-            all = false;
-        }
-        i += 1;
+    for x in numbers {
+        all &= within(*x, most);
     }
     all
 }

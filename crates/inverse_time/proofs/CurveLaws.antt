@@ -10,7 +10,9 @@ use lib.Dec.{T, eqb, leb, eqb→eq, leb→le}
 use lib.ListN.{get_or}
 use Rattle.lists.specs.Tests.{every}
 use Rattle.lists.proofs.TestLaws.{every_at, split}
-use Rattle.inverse_time.specs.Curves.{Curve, very_inverse, extremely_inverse, over, under, entry, LeastAtLeast, EntryLeast, NumberOf, ByStandard}
+use Rattle.inverse_time.specs.declared.curves.Curve.{Curve}
+use Rattle.inverse_time.specs.declared.curves.Curve.TheVariants.{VeryInverse, ExtremelyInverse}
+use Rattle.inverse_time.specs.Curves.{over, under, entry, LeastAtLeast, EntryLeast, NumberOf, ByStandard}
 use Rattle.inverse_time.specs.Timers.{most_sum}
 
 -- A table whose numbers are the entries for j = 11 to 200, which one test of the 190 tells, has the entry of each such j at place j − 11.
@@ -27,8 +29,8 @@ small e = leb 1 e && leb e most_sum
 
 small_entries : (c : Curve) → T (every 190 (λ k. small (entry c (11 + k))))
 unfolding entry
-small_entries very_inverse = tt
-small_entries extremely_inverse = tt
+small_entries VeryInverse = tt
+small_entries ExtremelyInverse = tt
 
 pub entry_within : (c : Curve) (j : ℕ) → 11 ≤ j → j ≤ 200 → (1 ≤ entry c j) × (entry c j ≤ most_sum)
 entry_within c j l h =
@@ -47,8 +49,8 @@ rounded_up a {b} h = record {
 }
 
 under_some : (c : Curve) (j : ℕ) → 11 ≤ j → 0 < under c j
-under_some very_inverse j l = omega arith
-under_some extremely_inverse j l = omega (arith, mul-le-mul_right j l)
+under_some VeryInverse j l = omega arith
+under_some ExtremelyInverse j l = omega (arith, mul-le-mul_right j l)
 
 pub entry_least : EntryLeast
 unfolding EntryLeast entry
@@ -56,5 +58,5 @@ entry_least c j l h = rounded_up (over c) (under_some c j l)
 
 pub by_standard : ByStandard
 unfolding ByStandard
-by_standard very_inverse j = (refl, rw (pow-suc j 0, pow-zero j) (omega arith))
-by_standard extremely_inverse j = (refl, rw (pow-suc j 1, pow-suc j 0, pow-zero j) (omega arith))
+by_standard VeryInverse j = (refl, rw (pow-suc j 0, pow-zero j) (omega arith))
+by_standard ExtremelyInverse j = (refl, rw (pow-suc j 1, pow-suc j 0, pow-zero j) (omega arith))

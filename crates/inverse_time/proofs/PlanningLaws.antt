@@ -11,7 +11,8 @@ use native.Mathlib.Nat.{div-lt_iff_lt-mul, div-mul-le_self, le-div_iff_mul-le, m
 use lib.ListN.{replicate}
 use borrow.Author.Tests.{le-ltb}
 use Rattle.lists.specs.Tests.{none, ◌&◌}
-use Rattle.inverse_time.specs.Curves.{Curve, entry, LeastAtLeast}
+use Rattle.inverse_time.specs.declared.curves.Curve.{Curve}
+use Rattle.inverse_time.specs.Curves.{entry, LeastAtLeast}
 use Rattle.inverse_time.specs.Timers.{multiple, most_sum, growth}
 use Rattle.inverse_time.specs.Rows.{after_sets, grown}
 use Rattle.inverse_time.specs.Planning.{PickUp, Unmoved, HeldTrips}

@@ -10,7 +10,7 @@ use native.Mathlib.Omega.{arith}
 use lib.Dec.{ltb}
 use borrow.Author.Tests.{eq-eqb, eqb-true}
 use Rattle.inverse_time.specs.declared.Timer.{Timer}
-use Rattle.inverse_time.specs.Curves.{Curve}
+use Rattle.inverse_time.specs.declared.curves.Curve.{Curve}
 use Rattle.inverse_time.specs.Timers.{most_sum, growth, sum_after, timer_after}
 use Rattle.inverse_time.specs.Rows.{after_sets, grown, Reached, SummedInARow, TrippedInARow}
 

@@ -6,7 +6,7 @@ use native.Mathlib.Omega.{arith}
 use lib.Dec.{ltb}
 use borrow.Author.Tests.{lt-ltb}
 use Rattle.inverse_time.specs.declared.Timer.{Timer}
-use Rattle.inverse_time.specs.Curves.{Curve}
+use Rattle.inverse_time.specs.declared.curves.Curve.{Curve}
 use Rattle.inverse_time.specs.Timers.{most_sum, growth, sum_after, timer_after, idle}
 
 -- a cleared sum stays so below 11

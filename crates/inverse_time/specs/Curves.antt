@@ -1,24 +1,22 @@
 -- The two curves (§ Backup overcurrent 4; IEC 60255-151, curves B and C, multiplier 1, 600 sets a second).
 use Rattle.std.specs.Prelude.{◌≡◌, cond, List, ℕ, ◌+◌, ◌-◌, ◌*◌, ◌/◌, ◌^◌, ◌≤◌, eqb, get_or}
-
-pub data Curve : Type 0 where
-  very_inverse : Curve
-  extremely_inverse : Curve
+use Rattle.inverse_time.specs.declared.curves.Curve.{Curve}
+use Rattle.inverse_time.specs.declared.curves.Curve.TheVariants.{VeryInverse, ExtremelyInverse}
 
 -- byte 76 of the setting: 1 very inverse, 2 extremely inverse
 abbrev pub curve_of : ℕ → Curve
-curve_of byte = cond (eqb byte 1) very_inverse extremely_inverse
+curve_of byte = cond (eqb byte 1) VeryInverse ExtremelyInverse
 
 -- ---- the tables
 
 -- The entry, for j = 11 to 200, is the least whole number at least 81,000 / (j − 10), or 4,800,000 / (j² − 100).
 abbrev pub over : Curve → ℕ
-over very_inverse = 81000
-over extremely_inverse = 4800000
+over VeryInverse = 81000
+over ExtremelyInverse = 4800000
 
 abbrev pub under : Curve → (j : ℕ) → ℕ
-under very_inverse j = j - 10
-under extremely_inverse j = j * j - 100
+under VeryInverse j = j - 10
+under ExtremelyInverse j = j * j - 100
 
 unfoldable pub entry : Curve → (j : ℕ) → ℕ
 entry c j = (over c + (under c j - 1)) / under c j
@@ -40,12 +38,12 @@ pub record NumberOf (table : List ℕ) (k r : ℕ) : Type 0 where
 -- IEC 60255-151: at G times the pick-up, multiplier 1, the element operates after k / (G^α − 1) seconds. Curve B, very inverse: k 13.5, α 1; curve C, extremely
 -- inverse: k 80, α 2. Here k is in tenths of a second.
 abbrev pub tenths : Curve → ℕ
-tenths very_inverse = 135
-tenths extremely_inverse = 800
+tenths VeryInverse = 135
+tenths ExtremelyInverse = 800
 
 abbrev pub exponent : Curve → ℕ
-exponent very_inverse = 1
-exponent extremely_inverse = 2
+exponent VeryInverse = 1
+exponent ExtremelyInverse = 2
 
 -- With G = j / 10, and 60 sets in a tenth of a second, that is 60·k·10^α / (j^α − 10^α) sets: the fraction that the entry is rounded up from.
 unfoldable pub ByStandard : Type 0

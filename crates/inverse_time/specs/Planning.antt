@@ -1,7 +1,8 @@
 -- What a planner asks of a pick-up and a curve (§ Backup overcurrent): below which current no sum grows, and after how many sets it trips.
 use Rattle.std.specs.Prelude.{◌≡◌, ◌↔◌, true, List, ℕ, ◌*◌, ◌≤◌, ◌<◌, replicate}
 use Rattle.lists.specs.Tests.{Each}
-use Rattle.inverse_time.specs.Curves.{Curve, entry, LeastAtLeast}
+use Rattle.inverse_time.specs.declared.curves.Curve.{Curve}
+use Rattle.inverse_time.specs.Curves.{entry, LeastAtLeast}
 use Rattle.inverse_time.specs.Timers.{multiple, most_sum, growth, idle}
 use Rattle.inverse_time.specs.Rows.{after_sets}
 

@@ -3,7 +3,7 @@
 use Rattle.std.specs.Prelude.{◌≡◌, ◌↔◌, true, cond, ℕ, ◌+◌, ◌≤◌, min, ltb}
 use mathlib.Core.List.{List, [], ◌∷◌, ◌++◌, foldr}
 use Rattle.inverse_time.specs.declared.Timer.{Timer}
-use Rattle.inverse_time.specs.Curves.{Curve}
+use Rattle.inverse_time.specs.declared.curves.Curve.{Curve}
 use Rattle.inverse_time.specs.Timers.{most_sum, growth, timer_after, idle}
 
 -- the sum and the trip after these sets

@@ -1,7 +1,8 @@
 -- The inverse-time element of an end, at a measured set (§ Backup overcurrent).
 use Rattle.std.specs.Prelude.{false, ◌||◌, cond, ℕ, ◌+◌, ◌*◌, ◌/◌, ◌≤◌, min, ltb, eqb}
 use Rattle.inverse_time.specs.declared.Timer.{Timer}
-use Rattle.inverse_time.specs.Curves.{Curve, entry}
+use Rattle.inverse_time.specs.declared.curves.Curve.{Curve}
+use Rattle.inverse_time.specs.Curves.{entry}
 
 -- j = 10·A / X without remainder; above 200, j is 200 (§ Backup overcurrent 2)
 unfoldable pub multiple : (X A : ℕ) → ℕ

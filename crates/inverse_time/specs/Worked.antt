@@ -1,7 +1,8 @@
 -- Numbers worked out by hand (§ Backup overcurrent): what the definitions give, and what is to be met.
 use Rattle.std.specs.Prelude.{◌≡◌, refl, true, false, List, [], ◌∷◌, map, ℕ, replicate}
 use Rattle.inverse_time.specs.declared.Timer.{Timer}
-use Rattle.inverse_time.specs.Curves.{curve_of, very_inverse, extremely_inverse, entry}
+use Rattle.inverse_time.specs.declared.curves.Curve.TheVariants.{VeryInverse, ExtremelyInverse}
+use Rattle.inverse_time.specs.Curves.{curve_of, entry}
 use Rattle.inverse_time.specs.Timers.{multiple, growth, sum_after, timer_after, idle}
 use Rattle.inverse_time.specs.Rows.{after_sets}
 
@@ -22,8 +23,8 @@ numbers =
     ∷ (multiple 200 4000, 200)
     ∷ (multiple 200 5000, 200)
     -- what a set at j = 11 adds
-    ∷ (growth very_inverse 11, 12345)
-    ∷ (growth extremely_inverse 11, 4374)
+    ∷ (growth VeryInverse 11, 12345)
+    ∷ (growth ExtremelyInverse 11, 4374)
     ∷ []
 
 numbers_met : map (λ r. r.0) numbers ≡ map (λ r. r.1) numbers
@@ -33,15 +34,15 @@ numbers_met = refl
 timers : List (Timer × Timer)
 timers =
     -- one set at j = 11: the sum stops at 1,000,000,000, and trips there; one less does not
-    (timer_after very_inverse 11 (record { sum = 999990000; trip = false }), record { sum = 1000000000; trip = true })
-    ∷ (timer_after very_inverse 11 (record { sum = 999987655; trip = false }), record { sum = 1000000000; trip = true })
-    ∷ (timer_after very_inverse 11 (record { sum = 999987654; trip = false }), record { sum = 999999999; trip = false })
+    (timer_after VeryInverse 11 (record { sum = 999990000; trip = false }), record { sum = 1000000000; trip = true })
+    ∷ (timer_after VeryInverse 11 (record { sum = 999987655; trip = false }), record { sum = 1000000000; trip = true })
+    ∷ (timer_after VeryInverse 11 (record { sum = 999987654; trip = false }), record { sum = 999999999; trip = false })
     -- one at j = 10: the sum is cleared, the trip stays
-    ∷ (timer_after very_inverse 10 (record { sum = 5; trip = false }), idle)
-    ∷ (timer_after very_inverse 10 (record { sum = 1000000000; trip = true }), record { sum = 0; trip = true })
+    ∷ (timer_after VeryInverse 10 (record { sum = 5; trip = false }), idle)
+    ∷ (timer_after VeryInverse 10 (record { sum = 1000000000; trip = true }), record { sum = 0; trip = true })
     -- held at j = 200, where a set adds 8,264,462: tripped at set 122
-    ∷ (after_sets extremely_inverse (replicate 121 200), record { sum = 999999902; trip = false })
-    ∷ (after_sets extremely_inverse (replicate 122 200), record { sum = 1000000000; trip = true })
+    ∷ (after_sets ExtremelyInverse (replicate 121 200), record { sum = 999999902; trip = false })
+    ∷ (after_sets ExtremelyInverse (replicate 122 200), record { sum = 1000000000; trip = true })
     ∷ []
 
 timers_met : map (λ r. r.0) timers ≡ map (λ r. r.1) timers

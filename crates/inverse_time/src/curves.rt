@@ -33,7 +33,7 @@ const EXTREMELY_INVERSE: [u32; 190] = [
     141, 140, 138, 137, 135, 134, 132, 131, 130, 128, 127, 126, 125, 123, 122, 121,
 ];
 
-// Number k of a table.
+// Number k of a table, which is lent: a table named where it is read would be laid on the stack.
 fn number(table: &[u32], k: usize) -> u32
     requires { k < length table.now }
     ensures { NumberOf table.now k result }
@@ -41,17 +41,45 @@ fn number(table: &[u32], k: usize) -> u32
     table[k]
 }
 
-// The entry of a curve's table for j.
+// The two curves.
+#[derive(Clone, Copy)]
+pub enum Curve {
+    VeryInverse,
+    ExtremelyInverse,
+}
+
+// By byte 76 of the setting.
+impl From<u8> for Curve {
+    ghost from_gives = { λ byte curve. curve ≡ curve_of byte };
+
+    fn from(byte: u8) -> Curve {
+        match byte {
+            1 => Curve::VeryInverse,
+            _ => Curve::ExtremelyInverse,
+        }
+    }
+}
+
+impl Curve {
+    // The entry of its table for j.
+    pub fn entry(self, j: u32) -> u32
+        requires { (11 ≤ j) × (j ≤ 200) }
+        ensures { result ≡ entry_of self j }
+    {
+        let k = (j - 11) as usize;
+        match self {
+            Curve::VeryInverse => number(&VERY_INVERSE, k),
+            Curve::ExtremelyInverse => number(&EXTREMELY_INVERSE, k),
+        }
+    }
+}
+
+// The entry of a curve's table for j, the curve by its byte.
 pub fn entry(curve: u8, j: u32) -> u32
     requires { (11 ≤ j) × (j ≤ 200) }
     ensures { result ≡ entry_of (curve_of curve) j }
 {
-    let k = (j - 11) as usize;
-    if curve == 1 {
-        number(&VERY_INVERSE, k)
-    } else {
-        number(&EXTREMELY_INVERSE, k)
-    }
+    Curve::from(curve).entry(j)
 }
 
 // The tables' rule, and that it is the standard's: no code, the statements and their proofs.

@@ -11,7 +11,8 @@ use Rattle.lists.specs.Lists.{up_to}
 use Rattle.integer.proofs.Reading.{ints, linear}
 use Rattle.integer.proofs.Laws.{ring, within-≤, within-+, within-*, within_self}
 use Rattle.lists.proofs.Fill.{place}
-use Rattle.matching.specs.Matching.{Three, three, operation, sum3, less_zero, operated}
+use Rattle.matching.specs.declared.Three.{Three}
+use Rattle.matching.specs.Matching.{three, operation, sum3, less_zero, operated}
 use Rattle.matching.specs.Bank.{line_current, gained, ideal}
 use Rattle.matching.specs.Weights.{own, next, before, parts}
 

@@ -17,7 +17,8 @@ use Rattle.lists.proofs.Maps.{map_up_to}
 use Rattle.setting.specs.declared.Setting.{Setting}
 use Rattle.setting.specs.Values.{end_of, factor, startable}
 use Rattle.setting.proofs.LimitLaws.{startable_is}
-use Rattle.matching.specs.Matching.{Three, three, even, operated, matched}
+use Rattle.matching.specs.declared.Three.{Three}
+use Rattle.matching.specs.Matching.{three, even, operated, matched}
 use Rattle.matching.specs.Sets.{System, sys_a, sys_b, sys_c, system, seen, phases, filtered, matched_at, place_of, numbers}
 use Rattle.matching.specs.Weights.{parts}
 use Rattle.matching.proofs.Forms.{◌·◌, linear_parts}

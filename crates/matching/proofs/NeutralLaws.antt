@@ -15,7 +15,8 @@ use Rattle.integer.proofs.Laws.{ring, within-≤, within-+, within_is, times_wit
 use Rattle.setting.specs.declared.Setting.{Setting}
 use Rattle.setting.specs.Values.{end_of, factor_top, factor_under}
 use Rattle.setting.proofs.LimitLaws.{startable_is}
-use Rattle.matching.specs.Matching.{Three, three, Quotient, even, sum3}
+use Rattle.matching.specs.declared.Three.{Three}
+use Rattle.matching.specs.Matching.{three, Quotient, even, sum3}
 use Rattle.matching.specs.Sets.{sys_a, sys_b, sys_c, from_next, seen, phases, filtered}
 use Rattle.matching.specs.Bank.{line_current, plus_third, gained, ideal, over_k, plus_common, NearIdeal}
 use Rattle.matching.specs.Neutral.{WithoutNeutral, SumsZero, Widened, NeutralBefore}

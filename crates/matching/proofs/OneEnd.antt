@@ -9,7 +9,8 @@ use Rattle.integer.specs.Within.{◌within◌}
 use Rattle.integer.specs.Nearest.{Near}
 use Rattle.integer.proofs.Reading.{ints, linear, ◌⇒◌}
 use Rattle.integer.proofs.Laws.{ring, literals, within-≤, within-+, within-*, within_is, times_within, cancel_times}
-use Rattle.matching.specs.Matching.{Three, three, even, sum3, operated, matched}
+use Rattle.matching.specs.declared.Three.{Three}
+use Rattle.matching.specs.Matching.{three, even, sum3, operated, matched}
 use Rattle.matching.specs.Sets.{from_next}
 use Rattle.matching.specs.Bank.{line_current, gained, ideal, ideal_current, NearIdeal}
 use Rattle.matching.specs.Weights.{own, next, parts}

@@ -11,7 +11,8 @@ use Rattle.integer.specs.Nearest.{nearest_away, Near}
 use Rattle.integer.proofs.Reading.{ints}
 use Rattle.integer.proofs.Laws.{literal_left, within-≤, within_is, times_within}
 use Rattle.integer.proofs.HalfUnit.{nearest_away_near, nearest_away_times}
-use Rattle.matching.specs.Matching.{Three, even, operated, matched}
+use Rattle.matching.specs.declared.Three.{Three}
+use Rattle.matching.specs.Matching.{even, operated, matched}
 use Rattle.matching.specs.Weights.{parts}
 use Rattle.matching.specs.MatchingInput.{OperatedInput}
 use Rattle.matching.proofs.Forms.{◌·◌, linear_parts, form_within}

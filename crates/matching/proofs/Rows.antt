@@ -10,7 +10,8 @@ use Rattle.integer.specs.Within.{◌within◌, eq_z}
 use Rattle.lists.specs.Tests.{hold, every}
 use Rattle.integer.proofs.Laws.{within-≤, within_is, eq_z→≡}
 use Rattle.lists.proofs.TestLaws.{hold_at, every_at, when, unless}
-use Rattle.matching.specs.Matching.{Three, three, operation, even, sum3, operated}
+use Rattle.matching.specs.declared.Three.{Three}
+use Rattle.matching.specs.Matching.{three, operation, even, sum3, operated}
 use Rattle.matching.specs.Sets.{from_next}
 use Rattle.matching.specs.Bank.{line_current, gained, ideal}
 use Rattle.matching.specs.Weights.{own, next, before, parts}

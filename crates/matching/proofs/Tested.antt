@@ -13,7 +13,8 @@ use Rattle.lists.specs.Tests.{hold, every}
 use Rattle.lists.proofs.TestLaws.{hold_at, every_at, when, unless}
 use Rattle.setting.specs.declared.Setting.{Setting}
 use Rattle.setting.specs.Values.{end_of, factor_top, factor_under}
-use Rattle.matching.specs.Matching.{Three, Quotient, even, sum3}
+use Rattle.matching.specs.declared.Three.{Three}
+use Rattle.matching.specs.Matching.{Quotient, even, sum3}
 use Rattle.matching.specs.Sets.{System, sys_a, sys_b, sys_c, system, seen, phases, filtered}
 use Rattle.matching.specs.Bank.{ideal_current, Healthy}
 

@@ -14,7 +14,8 @@ use Rattle.integer.proofs.HalfUnit.{nearest_near}
 use Rattle.setting.specs.declared.Setting.{Setting}
 use Rattle.setting.specs.Values.{end_of, factor_top, factor_under, factor, startable}
 use Rattle.setting.proofs.LimitLaws.{startable_is}
-use Rattle.matching.specs.Matching.{Three, Quotient, even, sum3}
+use Rattle.matching.specs.declared.Three.{Three}
+use Rattle.matching.specs.Matching.{Quotient, even, sum3}
 use Rattle.matching.specs.Sets.{System, sys_a, sys_b, sys_c, from_next, seen, phases, filtered, matched_at}
 use Rattle.matching.specs.Bank.{ideal_current, NearIdeal, Healthy, InReach, total, TotalBound, MatchedBound}
 use Rattle.matching.specs.MatchingInput.{MatchedInput}

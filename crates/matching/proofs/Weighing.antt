@@ -20,7 +20,8 @@ use Rattle.setting.specs.Values.{end_of, factor, startable}
 use Rattle.setting.specs.Limits.{factor_or0}
 use Rattle.setting.proofs.LimitLaws.{startable_is}
 use Rattle.matching.specs.declared.Trio.{Trio}
-use Rattle.matching.specs.Matching.{Three, even, operated, matched}
+use Rattle.matching.specs.declared.Three.{Three}
+use Rattle.matching.specs.Matching.{even, operated, matched}
 use Rattle.matching.specs.Sets.{System, sys_a, sys_b, sys_c, from_next, seen, phases, filtered, matched_at, place_of, trio_at}
 use Rattle.matching.specs.Weights.{parts, weight_of, weights_of, weighed, weighed_at, weighed_trio}
 use Rattle.matching.specs.MatchingInput.{Most, WeighedInput, EndInput, SetInput}

@@ -5,7 +5,8 @@ use Rattle.integer.specs.Nearest.{Near}
 use Rattle.integer.specs.Sum.{sum}
 use Rattle.setting.specs.declared.Setting.{Setting}
 use Rattle.setting.specs.Values.{end_of, factor_top, factor_under, startable}
-use Rattle.matching.specs.Matching.{Three, Quotient, operation, even, sum3}
+use Rattle.matching.specs.declared.Three.{Three}
+use Rattle.matching.specs.Matching.{Quotient, operation, even, sum3}
 use Rattle.matching.specs.Sets.{System, seen, phases, filtered, matched_at}
 
 -- ---- the ideal line current of a phase, step by step; a phase sees the limbs as its system does. It is in thousandths of a unit: up to `ideal` in that of

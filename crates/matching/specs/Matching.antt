@@ -1,14 +1,9 @@
 -- Matching (§ Matching; source 001, 2.1 and 2.2): the group operation, zero sequence, and the matched number.
 use Rattle.std.specs.Prelude.{Bool, true, false, [], ◌∷◌, ℕ, ◌*◌, ◌%◌, eqb, ℤ, pos, neg_ℤ, ◌+ℤ◌, ◌-ℤ◌, ◌*ℤ◌, get_or}
 use Rattle.integer.specs.Nearest.{nearest_away}
+use Rattle.matching.specs.declared.Three.{Three}
 
--- Three numbers as a system sees them: p of its own phase, n of the next (A to B to C to A), q of the one before
--- (§ Matching 4).
-pub record Three : Type 0 where
-  pub p : ℤ
-  pub n : ℤ
-  pub q : ℤ
-
+-- Three numbers as a system sees them: p of its own phase, n of the next, q of the one before (§ Matching 4).
 abbrev pub three : (p n q : ℤ) → Three
 three p n q = record { p = p; n = n; q = q }
 

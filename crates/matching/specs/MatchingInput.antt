@@ -4,7 +4,7 @@ use Rattle.integer.specs.Within.{◌within◌}
 use Rattle.setting.specs.declared.Setting.{Setting}
 use Rattle.setting.specs.Values.{startable}
 use Rattle.setting.specs.Limits.{four_factors}
-use Rattle.matching.specs.Matching.{Three}
+use Rattle.matching.specs.declared.Three.{Three}
 use Rattle.matching.specs.Sets.{phases}
 use Rattle.matching.specs.Bank.{InReach}
 use Rattle.matching.specs.Weights.{weights_of}

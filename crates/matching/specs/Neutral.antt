@@ -5,7 +5,8 @@ use Rattle.integer.specs.Within.{◌within◌}
 use Rattle.integer.specs.Sum.{sum}
 use Rattle.setting.specs.declared.Setting.{Setting}
 use Rattle.setting.specs.Values.{end_of, factor_top, factor_under, startable}
-use Rattle.matching.specs.Matching.{Three, even, sum3}
+use Rattle.matching.specs.declared.Three.{Three}
+use Rattle.matching.specs.Matching.{even, sum3}
 use Rattle.matching.specs.Sets.{System, seen, phases, filtered}
 use Rattle.matching.specs.Bank.{line_current, over_k, plus_common, NearIdeal, Healthy}
 

@@ -3,7 +3,8 @@
 use Rattle.std.specs.Prelude.{◌≡◌, refl, Bool, true, false, List, [], ◌∷◌, map, ℕ, ℤ, pos, ◌*ℤ◌}
 use Rattle.integer.specs.Within.{neg}
 use Rattle.integer.specs.Nearest.{floor, nearest, nearest_away}
-use Rattle.matching.specs.Matching.{Three, three, Quotient, operation, even, operated, matched}
+use Rattle.matching.specs.declared.Three.{Three}
+use Rattle.matching.specs.Matching.{three, Quotient, operation, even, operated, matched}
 use Rattle.matching.specs.Sets.{System, sys_a, sys_b, sys_c, seen}
 use Rattle.matching.specs.Bank.{line_current, gained, ideal, ideal_current}
 

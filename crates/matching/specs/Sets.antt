@@ -5,7 +5,8 @@ use Rattle.setting.specs.declared.End.{End}
 use Rattle.setting.specs.declared.Setting.{Setting}
 use Rattle.setting.specs.Values.{end_of, factor}
 use Rattle.matching.specs.declared.Trio.{Trio}
-use Rattle.matching.specs.Matching.{Three, three, matched}
+use Rattle.matching.specs.declared.Three.{Three}
+use Rattle.matching.specs.Matching.{three, matched}
 
 -- Systems 1, 2, 3 belong to phases A, B, C (§ Words and units), and to the limbs A, B, C of a bank.
 pub data System : Type 0 where

@@ -7,8 +7,8 @@ use Rattle.setting.specs.declared.Setting.{Setting}
 use Rattle.setting.specs.Values.{end_of}
 use Rattle.setting.specs.Limits.{factor_or0}
 use Rattle.matching.specs.declared.Trio.{Trio}
-use Rattle.matching.specs.declared.EndWeights.{EndWeights}
-use Rattle.matching.specs.Matching.{Three, three, Quotient, even, operated}
+use Rattle.matching.specs.declared.Three.{Three}
+use Rattle.matching.specs.Matching.{three, Quotient, even, operated}
 use Rattle.matching.specs.Sets.{System, sys_a, sys_b, sys_c, seen, phases, filtered}
 
 -- A quotient in parts of 4053 = 3·1351, which the under of every case divides.
@@ -35,8 +35,8 @@ abbrev pub weight_of : Setting → ℕ → Three → ℤ
 weight_of v z x = let e = end_of v z in factor_or0 v z *ℤ parts (operated (even e.group) (filtered e) e.group x)
 
 -- the three weights of end z
-unfoldable pub weights_at : Setting → ℕ → EndWeights
-weights_at v z = record { own = weight_of v z own; next = weight_of v z next; before = weight_of v z before }
+unfoldable pub weights_at : Setting → ℕ → Three
+weights_at v z = three (weight_of v z own) (weight_of v z next) (weight_of v z before)
 
 -- the twelve weights: end z at places 3z, 3z + 1, 3z + 2
 unfoldable pub weights_of : Setting → List ℤ

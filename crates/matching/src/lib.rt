@@ -3,8 +3,8 @@
 #![tactic(auto)]
 
 ghost use Rattle.std.specs.Prelude.{◌≡◌, ◌<◌};
-ghost use Rattle.matching.specs.Matching.{three, even, operation as operation_of, operated as operated_of};
-ghost use Rattle.matching.specs.Sets.{numbers as numbers_of};
+ghost use Rattle.matching.specs.Matching.{even, operation as operation_of, operated as operated_of};
+ghost use Rattle.matching.specs.Sets.{from_next, numbers as numbers_of};
 ghost use Rattle.matching.specs.Weights.{parts, weights_at, weights_of, weighed, weighed_trio};
 ghost use Rattle.matching.specs.MatchingInput.{OperationInput, OperatedInput, FactorsInput, WeighedInput, EndInput, SetInput};
 ghost use Rattle.matching.specs.Bank.{TotalBound, MatchedBound};
@@ -20,19 +20,33 @@ pub struct Trio {
     pub c: i32,
 }
 
-// What an end multiplies the samples of the own phase, the next and the one before by.
+// Three numbers as a system sees them: p of its own phase, n of the next (A to B to C to A), q of the one before.
 #[derive(Clone, Copy)]
-pub struct EndWeights {
-    pub own: i64,
-    pub next: i64,
-    pub before: i64,
+pub struct Three {
+    pub p: i64,
+    pub n: i64,
+    pub q: i64,
 }
 
-// The group operation T(g) of the own phase, the next and the one before.
-fn operation(g: u8, p: i64, n: i64, q: i64) -> i64
-    requires { OperationInput p n q }
-    ensures { result ≡ operation_of g p n q }
+impl Three {
+    // The three as the next phase sees them.
+    fn from_next(self) -> Three
+        ensures { result ≡ from_next self }
+    {
+        Three {
+            p: self.n,
+            n: self.q,
+            q: self.p,
+        }
+    }
+}
+
+// The group operation T(g).
+fn operation(g: u8, x: Three) -> i64
+    requires { OperationInput x.p x.n x.q }
+    ensures { result ≡ operation_of g x.p x.n x.q }
 {
+    let Three { p, n, q } = x;
     match g {
         0 => p,
         1 => p - n,
@@ -52,16 +66,16 @@ fn operation(g: u8, p: i64, n: i64, q: i64) -> i64
 
 // What K/65,536 multiplies, in parts of 4053 = 3·1351, so that every case has the same divisor. s is
 // 3·z0. T(g) of p − z0, n − z0, q − z0 is T(g) of p, n, q less T(g) of z0, z0, z0.
-fn operated(g: u8, filter: bool, p: i64, n: i64, q: i64) -> i64
-    requires { OperatedInput g (three p n q) }
-    ensures { result ≡ parts (operated_of (even g) filter g (three p n q)) }
+fn operated(g: u8, filter: bool, x: Three) -> i64
+    requires { OperatedInput g x }
+    ensures { result ≡ parts (operated_of (even g) filter g x) }
 {
-    let s = p + n + q;
-    let t = operation(g, p, n, q);
+    let s = x.p + x.n + x.q;
+    let t = operation(g, x);
     if g % 2 == 0 {
         let u = 4053 * t;
         if filter {
-            return u - 1351 * operation(g, s, s, s);
+            return u - 1351 * operation(g, Three { p: s, n: s, q: s });
         }
         return u;
     }
@@ -74,21 +88,18 @@ fn operated(g: u8, filter: bool, p: i64, n: i64, q: i64) -> i64
 
 // The three weights of end z: K times what the group operation makes of 1 on the own phase, the next
 // and the one before.
-fn weights_at(v: Setting, ks: [i64; 4], z: u8) -> EndWeights
+fn weights_at(v: Setting, ks: [i64; 4], z: u8) -> Three
     requires { FactorsInput v ks × (z < 4) }
     ensures { result ≡ weights_at v z }
 {
     let e = setting::rules::end_of(v, z);
     let g = e.group;
     let filter = e.filter == 1;
-    let k = ks[z as usize];
-    let own = k * operated(g, filter, 1, 0, 0);
-    let next = k * operated(g, filter, 0, 1, 0);
-    let before = k * operated(g, filter, 0, 0, 1);
-    EndWeights {
-        own: own,
-        next: next,
-        before: before,
+    let k = ks[usize::from(z)];
+    Three {
+        p: k * operated(g, filter, Three { p: 1, n: 0, q: 0 }),
+        n: k * operated(g, filter, Three { p: 0, n: 1, q: 0 }),
+        q: k * operated(g, filter, Three { p: 0, n: 0, q: 1 }),
     }
 }
 
@@ -102,40 +113,45 @@ pub fn weights(v: Setting, ks: [i64; 4]) -> [i64; 12]
     let z2 = weights_at(v, ks, 2);
     let z3 = weights_at(v, ks, 3);
     [
-        z0.own, z0.next, z0.before, z1.own, z1.next, z1.before, z2.own, z2.next, z2.before, z3.own,
-        z3.next, z3.before,
+        z0.p, z0.n, z0.q, z1.p, z1.n, z1.q, z2.p, z2.n, z2.q, z3.p, z3.n, z3.q,
     ]
 }
 
 // The matched number of a system: its three samples by the weights, to the nearest, rounded once, a
 // half away from zero.
-fn matched(own: i64, next: i64, before: i64, p: i64, n: i64, q: i64) -> i32
-    requires { WeighedInput (three own next before) (three p n q) }
-    ensures { result ≡ weighed (three own next before) (three p n q) }
+fn matched(w: Three, x: Three) -> i32
+    requires { WeighedInput w x }
+    ensures { result ≡ weighed w x }
 {
-    integer::nearest_away(own * p + next * n + before * q, 65536 * 4053) as i32
+    integer::nearest_away(w.p * x.p + w.n * x.n + w.q * x.q, 65536 * 4053) as i32
 }
 
 // The three matched numbers of end z in a set, zero where the end is not in use.
-fn matched_at(ends: u8, w: [i64; 12], z: u8, set: &[i16]) -> Trio
-    requires { EndInput ends w z set.now }
-    ensures { result ≡ weighed_trio ends w set.now z }
+fn matched_at(ends: u8, ws: [i64; 12], z: u8, set: &[i16]) -> Trio
+    requires { EndInput ends ws z set.now }
+    ensures { result ≡ weighed_trio ends ws set.now z }
 {
-    if z < ends {
-        let at = 3 * (z as usize);
-        let own = w[at];
-        let next = w[at + 1];
-        let before = w[at + 2];
-        let a = set[at] as i64;
-        let b = set[at + 1] as i64;
-        let c = set[at + 2] as i64;
-        return Trio {
-            a: matched(own, next, before, a, b, c),
-            b: matched(own, next, before, b, c, a),
-            c: matched(own, next, before, c, a, b),
-        };
+    if ends <= z {
+        return Trio { a: 0, b: 0, c: 0 };
     }
-    Trio { a: 0, b: 0, c: 0 }
+    let at = 3 * usize::from(z);
+    let w = Three {
+        p: ws[at],
+        n: ws[at + 1],
+        q: ws[at + 2],
+    };
+    let a = Three {
+        p: i64::from(set[at]),
+        n: i64::from(set[at + 1]),
+        q: i64::from(set[at + 2]),
+    };
+    let b = a.from_next();
+    let c = b.from_next();
+    Trio {
+        a: matched(w, a),
+        b: matched(w, b),
+        c: matched(w, c),
+    }
 }
 
 // The twelve matched numbers of a set, by the weights of the setting.

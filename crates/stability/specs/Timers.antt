@@ -6,7 +6,8 @@ use Rattle.refusal.specs.Refusals.{Outcome, gives, declines}
 use Rattle.setting.specs.declared.Setting.{Setting}
 use Rattle.setting.specs.Values.{startable}
 use Rattle.inverse_time.specs.declared.Timer.{Timer}
-use Rattle.inverse_time.specs.Curves.{Curve, curve_of}
+use Rattle.inverse_time.specs.declared.curves.Curve.{Curve}
+use Rattle.inverse_time.specs.Curves.{curve_of}
 use Rattle.inverse_time.specs.Timers.{multiple, most_sum, idle}
 use Rattle.overcurrent.specs.Ends.{timer_of, per_end, timed, trips_of}
 use Rattle.overcurrent.specs.Watching.{largest}

@@ -1,18 +1,7 @@
--- `integer::all_within` meets its contract. The loop's invariant: those before i and those from i on are within the bound if and only if all are.
-use mathlib.Core.Path.{◌≡◌}
-use mathlib.Core.Bool.{Bool, ◌&&◌}
-use Prim.Native.Nat.{ℕ, ◌-◌, ◌≤◌}
-use lib.Dec.{leb}
-use lib.IntN.{ℤ, nat_abs}
-use lib.ListN.{length, drop}
+-- `integer::all_within` meets its contract. The loop's invariant: so far, whether all are within the bound.
+use Rattle.std.proofs.Common.{◌≡◌, leb, nat_abs, take}
 use Rattle.lists.specs.Tests.{each}
 use Rattle.integer.proofs.all_within.Given as goal
 
-abbrev pub sized : ℕ → ℤ → Bool
-sized m x = leb (nat_abs x) m
-
-abbrev pub invariant-loop-i : goal.invariant-loop-i
-invariant-loop-i l = (l.i ≤ length l.numbers) × ((l.all && each (sized l.most) (drop l.i l.numbers)) ≡ each (sized l.most) l.numbers)
-
-abbrev pub decreases-loop-i : goal.decreases-loop-i
-decreases-loop-i l = length l.numbers - l.i
+abbrev pub invariant-loop-x : goal.invariant-loop-x
+invariant-loop-x l = l.all ≡ each (λ x. leb (nat_abs x) l.most) (take l.x-index l.numbers)

@@ -1,5 +1,4 @@
 -- `integer::start` meets its contract: the power of two as the machine shifts it, and the bounds of proofs/Newton.antt for the two steps.
-use borrow.Author.Tests.{lt-ltb, le-ltb}
 use mathlib.Core.Path.{◌≡◌, ap, ◌∙◌}
 use Prim.Native.Nat.{ℕ, ◌*◌, ◌/◌, ◌%◌, ◌^◌}
 use native.Mathlib.Omega.{arith}
@@ -48,10 +47,6 @@ module _ (c : After-step-r) where
 pub overflow_add-r : goal.overflow_add-r
 overflow_add-r c = record { fits = rw (twice c) (omega (arith, second_fits _ c.requires c.ranges.x.fits)) }
 
-pub returns-then-r-gt4294967295 : goal.returns-then-r-gt4294967295
+pub returns : goal.returns
 unfolding start
-returns-then-r-gt4294967295 c = let e = twice (goal.at.returns-then-r-gt4294967295 c).After-step-r in rw (← e, lt-ltb _ _ c.if-r-gt4294967295.true)
-
-pub returns-else-r-gt4294967295 : goal.returns-else-r-gt4294967295
-unfolding start
-returns-else-r-gt4294967295 c = let e = twice (goal.at.returns-else-r-gt4294967295 c).After-step-r in rw (← e, le-ltb _ _ c.if-r-gt4294967295.false)
+returns c = c.min.ensures ∙ rw (twice c.before)

@@ -3,17 +3,14 @@ use borrow.Author.Rules.{rules}
 use Rattle.inverse_time.specs.Timers.{multiple, timer_after}
 use Rattle.inverse_time.proofs.timer_after.Goals as goal
 
-pub multiple-j-requires : goal.multiple-j-requires
-multiple-j-requires c = search rules
-
 pub sum_after-sum-requires : goal.sum_after-sum-requires
 unfolding multiple
 sum_after-sum-requires c = search rules
 
 pub returns-then-t : goal.returns-then-t
 unfolding timer_after
-returns-then-t c = simp (c.if-t.true, c.sum_after-sum.ensures, c.multiple-j.ensures)
+returns-then-t c = simp (c.if-t.true, c.sum_after-sum.ensures, c.multiple.ensures, c.from.ensures)
 
-pub returns : goal.returns
+pub returns-else-t : goal.returns-else-t
 unfolding timer_after
-returns c = simp (c.if-t.false, c.sum_after-sum.ensures, c.multiple-j.ensures)
+returns-else-t c = simp (c.if-t.false, c.sum_after-sum.ensures, c.multiple.ensures, c.from.ensures)

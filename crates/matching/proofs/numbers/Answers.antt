@@ -26,12 +26,11 @@ returns c =
     let t3 = c.struct_told-3-1.given in
     let t2 = c.struct_told-2-1.given in
     let t1 = c.struct_told-1.given in
-    let m = c in
-    let m4 = m.matched_at-z3 in
-    let m3 = m.matched_at-z2 in
-    let m2 = m.matched_at-z1 in
-    let m1 = m.matched_at-z0 in
-    let a = m.requires in
+    let m4 = c.matched_at-z3 in
+    let m3 = c.matched_at-z2 in
+    let m2 = c.matched_at-z1 in
+    let m1 = c.matched_at-z0 in
+    let a = c.requires in
     rw (
       back_ok w32 m1.result.a t1.0.1,
       back_ok w32 m1.result.b t1.1.0.1,

@@ -85,4 +85,4 @@ unfolding operation
 returns-in-11 c = rw c.in-11.is (search (arms, c.requires))
 
 pub returns-in_default : goal.returns-in_default
-returns-in_default c = sym (beyond c.args.g c.args.p c.args.n c.args.q (omega arith))
+returns-in_default c = sym (beyond c.args.g c.args.x.p c.args.x.n c.args.x.q (omega arith))

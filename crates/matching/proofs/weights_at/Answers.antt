@@ -1,6 +1,5 @@
 -- `matching::weights_at` meets its contract: K, the group and the filter are those of the end, and K times what the operation makes of 1 fits.
-use borrow.Author.Rules.{rules}
-use mathlib.Core.Path.{◌≡◌, refl, ◌∙◌}
+use mathlib.Core.Path.{◌≡◌, refl, ap, ◌∙◌}
 use mathlib.Core.Bool.{Bool}
 use mathlib.Core.List.{List, [], ◌∷◌}
 use Prim.Native.Nat.{ℕ, ◌*◌, ◌<◌}
@@ -14,7 +13,8 @@ use Rattle.setting.specs.declared.End.{End}
 use Rattle.setting.specs.declared.Setting.{Setting}
 use Rattle.setting.specs.Values.{end_of}
 use Rattle.setting.specs.Limits.{factor_or0, four_factors}
-use Rattle.matching.specs.Matching.{Three, even, operated}
+use Rattle.matching.specs.declared.Three.{Three}
+use Rattle.matching.specs.Matching.{even, operated}
 use Rattle.matching.specs.Sets.{filtered}
 use Rattle.matching.specs.Weights.{parts, weight_of, weights_at}
 use Rattle.matching.specs.MatchingInput.{OperatedInput, FactorsInput}
@@ -45,56 +45,41 @@ module _ {v : Setting} {ks : List ℤ} (a : FactorsInput v ks) {z : ℕ} (l : z 
   group = rw is (group_below v a.sound z l)
 
   -- K times what `operated` made of x
-  weight : (x : Three) {r : ℤ} → r ≡ parts (operated (even e.group) (filtered e) e.group x) → T (hold (sizes x)) →
-      Number (kept (get_or ks z (pos 0)) *ℤ kept r) (weight_of v z x) (1048576 * (6031 * 32000))
+  weight : {j : ℕ} → j ≡ z → (x : Three) {r : ℤ} → r ≡ parts (operated (even e.group) (filtered e) e.group x) → T (hold (sizes x)) →
+      Number (kept (get_or ks j (pos 0)) *ℤ kept r) (weight_of v z x) (1048576 * (6031 * 32000))
   unfolding four_factors
-  weight x h t =
-      product (record { is = place (pos 0) (factor_or0 v) a.factors z l; size = factor_within v a.sound z; few = refl })
+  weight at x h t =
+      let k = ap (λ (i : ℕ). get_or ks i (pos 0)) at ∙ place (pos 0) (factor_or0 v) a.factors z l in
+      product (record { is = k; size = factor_within v a.sound z; few = refl })
       (record { is = h ∙ rw is; size = parts_within (samples (group_below v a.sound z l) x t) (filtered (end_of v z)); few = refl })
       refl
 
 -- ---- the needs
 
-pub end_of-e-requires : goal.end_of-e-requires
-end_of-e-requires c = search rules
-
-pub offset_bounds-ks-z : goal.offset_bounds-ks-z
-offset_bounds-ks-z c = search rules
-
-pub bounds-ks-z : goal.bounds-ks-z
-bounds-ks-z c = search rules
-
 pub operated-requires : goal.operated-requires
-operated-requires c = let e = c in let p = e.requires in samples (group p.0 p.1 e.end_of-e.ensures) _ tt
+operated-requires c = let p = c.requires in samples (group p.0 p.1 c.end_of-e.ensures) _ tt
 
-pub overflow_mul-own : goal.overflow_mul-own
-overflow_mul-own c = let e = c in let p = e.requires in fits (weight p.0 p.1 e.end_of-e.ensures _ c.operated.ensures tt)
+pub overflow_mul-result : goal.overflow_mul-result
+overflow_mul-result c = let p = c.requires in fits (weight p.0 p.1 c.end_of-e.ensures c.from.ensures _ c.operated.ensures tt)
 
 pub operated-requires-2 : goal.operated-requires-2
-operated-requires-2 c = let e = c in let p = e.requires in samples (group p.0 p.1 e.end_of-e.ensures) _ tt
+operated-requires-2 c = let p = c.requires in samples (group p.0 p.1 c.end_of-e.ensures) _ tt
 
-pub overflow_mul-next : goal.overflow_mul-next
-overflow_mul-next c =
-    let e = c in
-    let p = e.requires in
-    fits (weight p.0 p.1 e.end_of-e.ensures _ c.operated-2.ensures tt)
+pub overflow_mul-result-2 : goal.overflow_mul-result-2
+overflow_mul-result-2 c = let p = c.requires in fits (weight p.0 p.1 c.end_of-e.ensures c.from.ensures _ c.operated-2.ensures tt)
 
 pub operated-requires-3 : goal.operated-requires-3
-operated-requires-3 c = let e = c in let p = e.requires in samples (group p.0 p.1 e.end_of-e.ensures) _ tt
+operated-requires-3 c = let p = c.requires in samples (group p.0 p.1 c.end_of-e.ensures) _ tt
 
-pub overflow_mul-before : goal.overflow_mul-before
-overflow_mul-before c =
-    let e = c in
-    let p = e.requires in
-    fits (weight p.0 p.1 e.end_of-e.ensures _ c.operated-3.ensures tt)
+pub overflow_mul-result-3 : goal.overflow_mul-result-3
+overflow_mul-result-3 c = let p = c.requires in fits (weight p.0 p.1 c.end_of-e.ensures c.from.ensures _ c.operated-3.ensures tt)
 
 pub returns : goal.returns
 unfolding weights_at
 returns c =
-    let e = c in
-    let p = e.requires in
+    let p = c.requires in
     rw (
-      read (weight p.0 p.1 e.end_of-e.ensures _ c.operated.ensures tt),
-      read (weight p.0 p.1 e.end_of-e.ensures _ c.operated-2.ensures tt),
-      read (weight p.0 p.1 e.end_of-e.ensures _ c.operated-3.ensures tt),
+      read (weight p.0 p.1 c.end_of-e.ensures c.from.ensures _ c.operated.ensures tt),
+      read (weight p.0 p.1 c.end_of-e.ensures c.from.ensures _ c.operated-2.ensures tt),
+      read (weight p.0 p.1 c.end_of-e.ensures c.from.ensures _ c.operated-3.ensures tt),
     )
