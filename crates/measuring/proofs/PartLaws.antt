@@ -24,6 +24,7 @@ use Rattle.matching.specs.Sets.{index, system}
 use Rattle.amplitude.specs.Amplitude.{amplitude}
 use Rattle.amplitude.specs.Parts.{shares, share, part, joined, of_sums, PartsInput, OfParts}
 use Rattle.amplitude.proofs.Parts.{first_by_parts, second_by_parts, fifth_by_parts}
+use Rattle.characteristic.specs.declared.Currents.{Currents}
 use Rattle.measuring.specs.Window.{at, series, sums, difference}
 use Rattle.measuring.specs.Measuring.{sumℕ, twice_restraint, currents_of}
 use Rattle.measuring.specs.WindowInput.{WindowInput}
@@ -43,6 +44,9 @@ module _ {f : List ℤ} (z : PartsLike f) (p y : ℕ) where
 
   pub between_within : (of 0 -ℤ of 1) within 51200000
   between_within = within-≤ (within-- (z.small _) (z.small _)) (omega arith)
+
+  pub between_read : {x : ℤ} → x ≡ of 0 -ℤ of 1 → to_z w32 (of_z w32 x) ≡ of 0 -ℤ of 1
+  between_read e = rw e (back_within between_within w32 refl)
 
   module _ (n : ℕ) (l : n ≤ 4) {s : ℤ} (e : s ≡ sum n of) where
     pub over_fits : SFits w32 s
@@ -227,7 +231,7 @@ module _ {win f : List ℤ} (h : Folds win f) (y : ℕ) (l : y < 3) where
           ← (first_by_parts (difference win (system y))),
         )
 
-    pub currents_are : currents_by E f y ≡ currents_of E win (system y)
+    currents_are : currents_by E f y ≡ currents_of E win (system y)
     unfolding currents_with currents_of
     currents_are =
         let u = sums E win (system y) in
@@ -243,3 +247,6 @@ module _ {win f : List ℤ} (h : Folds win f) (y : ℕ) (l : y < 3) where
           second_by_parts u,
           fifth_by_parts u,
         )
+
+    pub currents_read : {n : ℕ} {c : Currents} → E ≡ n → c ≡ currents_by E f y → c ≡ currents_of n win (system y)
+    currents_read e h = h ∙ currents_are ∙ rw e
