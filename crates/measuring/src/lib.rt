@@ -58,7 +58,7 @@ fn combined(win: &[i32], w: [i32; 12], i: usize) -> i32
 #[derive(Drop)]
 struct Folded {
     parts: [i32; 72],
-    ends: u8,
+    ends: usize,
     ghost like: { PartsLike parts },
     ghost used: { Ends ends },
 }
@@ -87,7 +87,10 @@ impl Folded {
             parts[48 + i] = c2;
             parts[60 + i] = s2;
         }
-        Folded { parts, ends }
+        Folded {
+            parts,
+            ends: usize::from(ends),
+        }
     }
 
     // Part p of number i of the sets.
@@ -155,7 +158,7 @@ impl Folded {
         if self.ends == 2 && !asked {
             0
         } else {
-            3 * usize::from(self.ends)
+            3 * self.ends
         }
     }
 

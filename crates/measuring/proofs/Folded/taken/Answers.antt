@@ -19,4 +19,4 @@ all E asked (inl h) = rw (h.1, and-false (eqb E 2))
 all E asked (inr n) = rw (ne_eqb E 2 n)
 
 pub returns-else-self-eq2 : goal.returns-else-self-eq2
-returns-else-self-eq2 c = rw c.from.ensures (all _ _ c.else-self-eq2.either)
+returns-else-self-eq2 c = all _ _ c.else-self-eq2.either
