@@ -1,12 +1,12 @@
 -- A window in parts. A part is linear, so that of the sum over the ends is the sum of the ends' parts, and that of a difference their difference; and
 -- the amplitudes come from the parts (`amplitude`, proofs/Parts.antt). So the currents by the parts of a window are those of the definitions.
 use mathlib.Core.Path.{◌≡◌, refl, sym, ◌∙◌}
-use mathlib.Core.Bool.{Bool, true, false, not}
+use mathlib.Core.Bool.{Bool, true, false, not, cond}
 use mathlib.Core.List.{List, []}
 use Prim.Native.Nat.{ℕ, zero, suc, ◌+◌, ◌*◌, ◌≤◌, ◌<◌}
 use native.Mathlib.Decide.{ℕ_discrete}
 use native.Mathlib.Omega.{arith}
-use lib.Dec.{T, leb, ltb, leb→le, ltb→lt, nltb→le}
+use lib.Dec.{T, eqb, leb, ltb, leb→le, ltb→lt, nltb→le}
 use lib.IntN.{ℤ, pos, neg_ℤ, ◌+ℤ◌, ◌*ℤ◌, ◌-ℤ◌, *ℤ_comm}
 use lib.ListN.{get_or, set, length-set}
 use lib.Seq.{get_or-set_same, get_or-set_other}
@@ -20,7 +20,7 @@ use Rattle.integer.proofs.Machine.{fits, back_within}
 use Rattle.integer.proofs.SumLaws.{sum_same, sum-+, sum--, sum_times, sum_next, sum_within_lem, weight, weighted}
 use Rattle.lists.specs.Tests.{every}
 use Rattle.lists.proofs.TestLaws.{every_at}
-use Rattle.matching.specs.Sets.{index, system}
+use Rattle.matching.specs.Sets.{System, index, system}
 use Rattle.amplitude.specs.Amplitude.{amplitude}
 use Rattle.amplitude.specs.Parts.{shares, share, part, joined, of_sums, PartsInput, OfParts}
 use Rattle.amplitude.proofs.Parts.{first_by_parts, second_by_parts, fifth_by_parts}
@@ -184,6 +184,11 @@ module _ (p : ℕ) where
 
 -- ---- the currents by the parts of a window
 
+pub restraint_is : (E : ℕ) (win : List ℤ) (l : System) →
+    twice_restraint E win l ≡ cond (eqb E 2) (amplitude 1 (difference win l)) (sumℕ E (λ z. amplitude 1 (series win z l)))
+unfolding twice_restraint
+restraint_is E win l = refl
+
 index_system : (y : ℕ) → y < 3 → index (system y) ≡ y
 index_system zero h = refl
 index_system (suc zero) h = refl
@@ -220,9 +225,10 @@ module _ {win f : List ℤ} (h : Folds win f) (y : ℕ) (l : y < 3) where
 
   module _ (E : ℕ) (four : E ≤ 4) where
     twice_restraint_is : twice_restraint_by E f y ≡ twice_restraint E win (system y)
-    unfolding twice_restraint_by twice_restraint
+    unfolding twice_restraint_by
     twice_restraint_is =
         rw (
+          restraint_is E win (system y),
           of_difference 0 (omega arith),
           of_difference 1 (omega arith),
           of_difference 2 (omega arith),
