@@ -237,7 +237,7 @@ module _ {win f : List ℤ} (h : Folds win f) (y : ℕ) (l : y < 3) where
           ← (first_by_parts (difference win (system y))),
         )
 
-    currents_are : currents_by E f y ≡ currents_of E win (system y)
+    pub currents_are : currents_by E f y ≡ currents_of E win (system y)
     unfolding currents_with currents_of
     currents_are =
         let u = sums E win (system y) in
