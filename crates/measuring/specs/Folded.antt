@@ -17,7 +17,6 @@ combined win w i = sum 12 (λ k. get_or w k (pos 0) *ℤ column win i k)
 
 pub record CombinedInput (win w : List ℤ) (i : ℕ) : Type 0 where
   pub window : WindowInput win
-  pub twelve : length w ≡ 12
   pub shares : (k : ℕ) → get_or w k (pos 0) within 2
   pub place : i < 12
 
