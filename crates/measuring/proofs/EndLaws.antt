@@ -18,8 +18,8 @@ use Rattle.matching.specs.Sets.{System, sys_a, sys_b, sys_c, index, system}
 use Rattle.amplitude.specs.Amplitude.{amplitude}
 use Rattle.measuring.specs.Window.{series}
 use Rattle.measuring.specs.WindowInput.{Ends}
-use Rattle.measuring.specs.Folded.{Folds, PartsLike, OverInput, FirstOf, part_at, first_by, twice_restraint_by}
-use Rattle.measuring.specs.Ends.{part_of, AmplitudesFrom, StepsInput, taken, EndsOf, TwiceRestraintInput}
+use Rattle.measuring.specs.Folded.{Folds, FirstOf, part_at, first_by, twice_restraint_by}
+use Rattle.measuring.specs.Ends.{part_of, AmplitudesFrom, StepsInput, taken, EndsOf, MadeOf}
 use Rattle.measuring.proofs.PartLaws.{first_at}
 
 -- ---- the amplitudes, a store at a time
@@ -68,6 +68,10 @@ module _ {f : List ℤ} {first step n : ℕ} where
       small : (i : ℕ) → Dec (i ≡ j) → get_or (set a j x) i 0 ≤ 32000000
       small i (yes q) = rw (q, here) e.small
       small i (no d) = rw (other i d) (h.small i)
+
+  -- once all below n are passed
+  pub amplitudes_all : {j : ℕ} {a : List ℕ} → AmplitudesFrom f first step j n a → n ≤ j → AmplitudesFrom f first step n n a
+  amplitudes_all h past = record { long = h.long; is = λ i k s m. h.is i k s (omega arith); none = h.none; small = h.small }
 
 -- ---- how many are taken
 
@@ -130,20 +134,19 @@ restraint_by_ends {E} {y} {f} {a} h three four = by (ℕ_discrete E 3)
 
 -- ---- what the code hands on
 
-module _ {f : List ℤ} {E n : ℕ} (asked : Bool) (e : n ≡ taken E asked) where
-  pub steps_ready : (first step : ℕ) → PartsLike f → Ends E → first ≤ 3 → 1 ≤ step → step ≤ 3 → StepsInput f first step n
-  steps_ready first step parts ends start some few =
-      record { parts = parts; start = start; some = some; few = few; within = rw e (taken_within E asked ends) }
+module _ {E n : ℕ} (asked : Bool) (e : n ≡ taken E asked) where
+  pub steps_ready : (first step : ℕ) → Ends E → first ≤ 3 → 1 ≤ step → step ≤ 3 → StepsInput first step n
+  steps_ready first step ends start some few = record { start = start; some = some; few = few; within = rw e (taken_within E asked ends) }
 
-  module _ {y : ℕ} {a : List ℕ} (over : OverInput f E 0 y) where
-    pub ready_by_all : AmplitudesFrom f 0 1 n n a → TwiceRestraintInput f E y a
-    ready_by_all h = record { over = over; twelve = h.long; ends = λ three. of_all (e ∙ taken_three E asked three) y over.place.system h }
+  module _ {y : ℕ} {f : List ℤ} {a : List ℕ} (l : y < 3) where
+    pub made_by_all : AmplitudesFrom f 0 1 n n a → MadeOf E f y a
+    made_by_all h three = of_all (e ∙ taken_three E asked three) y l h
 
-    pub ready_by_one : AmplitudesFrom f y 3 n n a → TwiceRestraintInput f E y a
-    ready_by_one h = record { over = over; twelve = h.long; ends = λ three. of_one (e ∙ taken_three E asked three) y over.place.system h }
+    pub made_by_one : AmplitudesFrom f y 3 n n a → MadeOf E f y a
+    made_by_one h three = of_one (e ∙ taken_three E asked three) y l h
 
   -- asked for, they are those of the window
-  pub asked_are : {win : List ℤ} {a : List ℕ} → Folds win f → AmplitudesFrom f 0 1 n n a → E ≤ 4 → T asked → (z : ℕ) → z < E → (l : System) →
+  pub asked_are : {win f : List ℤ} {a : List ℕ} → Folds win f → AmplitudesFrom f 0 1 n n a → E ≤ 4 → T asked → (z : ℕ) → z < E → (l : System) →
       get_or a (3 * z + index l) 0 ≡ amplitude 1 (series win z l)
   asked_are {win} {a} folds h four t z lz l = of l
     where

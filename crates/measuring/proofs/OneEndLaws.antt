@@ -1,6 +1,6 @@
 -- A system fed from one end. Of a sum over the ends one term is left, so D is the amplitude of that end. With two ends R is that of the end or of its
 -- numbers negated, which is the same (card 1); with more it is a sum of amplitudes, of which all others are zero.
-use mathlib.Core.Path.{◌≡◌, refl}
+use mathlib.Core.Path.{◌≡◌, refl, ◌∙◌}
 use mathlib.Core.Logic.{◌≢◌}
 use mathlib.Core.Bool.{Bool, true, false, cond}
 use mathlib.Core.List.{List}
@@ -19,6 +19,7 @@ use Rattle.amplitude.proofs.Negated.{amplitude_negated}
 use Rattle.measuring.specs.Window.{at, series, sums, difference}
 use Rattle.measuring.specs.Measuring.{sumℕ, twice_restraint}
 use Rattle.measuring.specs.OneEnd.{FedFrom}
+use Rattle.measuring.proofs.PartLaws.{restraint_is}
 
 -- ---- a sum of which one term is left
 
@@ -50,8 +51,7 @@ module _ (E : ℕ) (win : List ℤ) (l : System) (z : ℕ) (fed : FedFrom E win 
   between_is two (suc (suc y)) e = absurd (omega (arith, fed.in_use))
 
   pub r_is : twice_restraint E win l ≡ amplitude 1 (series win z l)
-  unfolding twice_restraint
-  r_is = by (eqb E 2) refl
+  r_is = restraint_is E win l ∙ by (eqb E 2) refl
     where
       ends : ℕ
       ends = sumℕ E (λ e. amplitude 1 (series win e l))

@@ -1,12 +1,12 @@
 -- A window in parts. A part is linear, so that of the sum over the ends is the sum of the ends' parts, and that of a difference their difference; and
 -- the amplitudes come from the parts (`amplitude`, proofs/Parts.antt). So the currents by the parts of a window are those of the definitions.
 use mathlib.Core.Path.{◌≡◌, refl, sym, ◌∙◌}
-use mathlib.Core.Bool.{Bool, true, false, not}
+use mathlib.Core.Bool.{Bool, true, false, not, cond}
 use mathlib.Core.List.{List, []}
 use Prim.Native.Nat.{ℕ, zero, suc, ◌+◌, ◌*◌, ◌≤◌, ◌<◌}
 use native.Mathlib.Decide.{ℕ_discrete}
 use native.Mathlib.Omega.{arith}
-use lib.Dec.{T, leb, ltb, leb→le, ltb→lt, nltb→le}
+use lib.Dec.{T, eqb, leb, ltb, leb→le, ltb→lt, nltb→le}
 use lib.IntN.{ℤ, pos, neg_ℤ, ◌+ℤ◌, ◌*ℤ◌, ◌-ℤ◌, *ℤ_comm}
 use lib.ListN.{get_or, set, length-set}
 use lib.Seq.{get_or-set_same, get_or-set_other}
@@ -20,10 +20,11 @@ use Rattle.integer.proofs.Machine.{fits, back_within}
 use Rattle.integer.proofs.SumLaws.{sum_same, sum-+, sum--, sum_times, sum_next, sum_within_lem, weight, weighted}
 use Rattle.lists.specs.Tests.{every}
 use Rattle.lists.proofs.TestLaws.{every_at}
-use Rattle.matching.specs.Sets.{index, system}
+use Rattle.matching.specs.Sets.{System, index, system}
 use Rattle.amplitude.specs.Amplitude.{amplitude}
 use Rattle.amplitude.specs.Parts.{shares, share, part, joined, of_sums, PartsInput, OfParts}
 use Rattle.amplitude.proofs.Parts.{first_by_parts, second_by_parts, fifth_by_parts}
+use Rattle.characteristic.specs.declared.Currents.{Currents}
 use Rattle.measuring.specs.Window.{at, series, sums, difference}
 use Rattle.measuring.specs.Measuring.{sumℕ, twice_restraint, currents_of}
 use Rattle.measuring.specs.WindowInput.{WindowInput}
@@ -43,6 +44,9 @@ module _ {f : List ℤ} (z : PartsLike f) (p y : ℕ) where
 
   pub between_within : (of 0 -ℤ of 1) within 51200000
   between_within = within-≤ (within-- (z.small _) (z.small _)) (omega arith)
+
+  pub between_read : {x : ℤ} → x ≡ of 0 -ℤ of 1 → to_z w32 (of_z w32 x) ≡ of 0 -ℤ of 1
+  between_read e = rw e (back_within between_within w32 refl)
 
   module _ (n : ℕ) (l : n ≤ 4) {s : ℤ} (e : s ≡ sum n of) where
     pub over_fits : SFits w32 s
@@ -180,6 +184,11 @@ module _ (p : ℕ) where
 
 -- ---- the currents by the parts of a window
 
+pub restraint_is : (E : ℕ) (win : List ℤ) (l : System) →
+    twice_restraint E win l ≡ cond (eqb E 2) (amplitude 1 (difference win l)) (sumℕ E (λ z. amplitude 1 (series win z l)))
+unfolding twice_restraint
+restraint_is E win l = refl
+
 index_system : (y : ℕ) → y < 3 → index (system y) ≡ y
 index_system zero h = refl
 index_system (suc zero) h = refl
@@ -216,9 +225,10 @@ module _ {win f : List ℤ} (h : Folds win f) (y : ℕ) (l : y < 3) where
 
   module _ (E : ℕ) (four : E ≤ 4) where
     twice_restraint_is : twice_restraint_by E f y ≡ twice_restraint E win (system y)
-    unfolding twice_restraint_by twice_restraint
+    unfolding twice_restraint_by
     twice_restraint_is =
         rw (
+          restraint_is E win (system y),
           of_difference 0 (omega arith),
           of_difference 1 (omega arith),
           of_difference 2 (omega arith),
@@ -243,3 +253,6 @@ module _ {win f : List ℤ} (h : Folds win f) (y : ℕ) (l : y < 3) where
           second_by_parts u,
           fifth_by_parts u,
         )
+
+    pub currents_read : {n : ℕ} {c : Currents} → E ≡ n → c ≡ currents_by E f y → c ≡ currents_of n win (system y)
+    currents_read e h = h ∙ currents_are ∙ rw e

@@ -7,7 +7,7 @@ use Rattle.amplitude.specs.Amplitude.{amplitude}
 use Rattle.measuring.specs.declared.WithEnds.{WithEnds}
 use Rattle.measuring.specs.Window.{series}
 use Rattle.measuring.specs.Measuring.{readings_of}
-use Rattle.measuring.specs.Folded.{PartsLike, OverInput, part_at, first_by}
+use Rattle.measuring.specs.Folded.{part_at, first_by}
 
 -- What is measured, and where they are asked for the amplitudes of the ends in use: number 3·z + y is of end z and system y.
 pub record MeasuresEnds (v : Setting) (win : List ℤ) (asked : Bool) (r : WithEnds) : Type 0 where
@@ -21,11 +21,6 @@ pub record MeasuresEnds (v : Setting) (win : List ℤ) (asked : Bool) (r : WithE
 abbrev pub part_of : List ℤ → (p i : ℕ) → ℤ
 part_of f p i = get_or f (12 * p + i) (pos 0)
 
-pub record PartInput (f : List ℤ) (p i : ℕ) : Type 0 where
-  pub parts : PartsLike f
-  pub part : p < 6
-  pub number : i < 12
-
 -- The numbers from `first` on in steps of `step`: those below `to` have their amplitudes in their places; from n on all is 0.
 pub record AmplitudesFrom (f : List ℤ) (first step to n : ℕ) (a : List ℕ) : Type 0 where
   pub long : length a ≡ 12
@@ -33,8 +28,7 @@ pub record AmplitudesFrom (f : List ℤ) (first step to n : ℕ) (a : List ℕ) 
   pub none : (i : ℕ) → n ≤ i → get_or a i 0 ≡ 0
   pub small : (i : ℕ) → get_or a i 0 ≤ 32000000
 
-pub record StepsInput (f : List ℤ) (first step n : ℕ) : Type 0 where
-  pub parts : PartsLike f
+pub record StepsInput (first step n : ℕ) : Type 0 where
   pub start : first ≤ 3
   pub some : 1 ≤ step
   pub few : step ≤ 3
@@ -50,7 +44,6 @@ pub record EndsOf (E : ℕ) (f : List ℤ) (y : ℕ) (a : List ℕ) : Type 0 whe
   pub none : (i z : ℕ) → i ≡ 3 * z + y → E ≤ z → get_or a i 0 ≡ 0
   pub small : (i : ℕ) → get_or a i 0 ≤ 32000000
 
-pub record TwiceRestraintInput (f : List ℤ) (E y : ℕ) (a : List ℕ) : Type 0 where
-  pub over : OverInput f E 0 y
-  pub twelve : length a ≡ 12
-  pub ends : 3 ≤ E → EndsOf E f y a
+-- With three or four ends R is made of them.
+abbrev pub MadeOf : (ends : ℕ) (f : List ℤ) (y : ℕ) (a : List ℕ) → Type 0
+MadeOf E f y a = 3 ≤ E → EndsOf E f y a

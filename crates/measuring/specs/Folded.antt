@@ -5,7 +5,7 @@ use Rattle.integer.specs.Sum.{sum}
 use Rattle.amplitude.specs.Parts.{part, joined, of_sums}
 use Rattle.characteristic.specs.declared.Currents.{Currents}
 use Rattle.measuring.specs.Measuring.{sumℕ}
-use Rattle.measuring.specs.WindowInput.{WindowInput, Ends}
+use Rattle.measuring.specs.WindowInput.{WindowInput}
 
 -- number i of set k
 abbrev pub column : List ℤ → (i k : ℕ) → ℤ
@@ -17,7 +17,6 @@ combined win w i = sum 12 (λ k. get_or w k (pos 0) *ℤ column win i k)
 
 pub record CombinedInput (win w : List ℤ) (i : ℕ) : Type 0 where
   pub window : WindowInput win
-  pub twelve : length w ≡ 12
   pub shares : (k : ℕ) → get_or w k (pos 0) within 2
   pub place : i < 12
 
@@ -37,19 +36,9 @@ pub record Folds (win f : List ℤ) : Type 0 where
 abbrev pub part_at : List ℤ → (p z y : ℕ) → ℤ
 part_at f p z y = get_or f (12 * p + (3 * z + y)) (pos 0)
 
-pub record PlaceInput (f : List ℤ) (p z y : ℕ) : Type 0 where
-  pub parts : PartsLike f
-  pub part : p < 6
-  pub end : z < 4
-  pub system : y < 3
-
 -- over the ends in use
 unfoldable pub over_ends : (ends : ℕ) → List ℤ → (p y : ℕ) → ℤ
 over_ends E f p y = sum E (λ z. part_at f p z y)
-
-pub record OverInput (f : List ℤ) (E p y : ℕ) : Type 0 where
-  pub place : PlaceInput f p 3 y
-  pub ends : Ends E
 
 -- the amplitudes for h = 1, 2, 5 of what has the parts g
 abbrev pub first_by : (ℕ → ℤ) → ℕ

@@ -1,6 +1,4 @@
--- `measuring::combined` meets its contract. The loop's invariant: `sum` holds the bits of the sum of the first k products. The measure is what is left
--- of the twelve.
-use borrow.Author.Rules.{rules}
+-- `measuring::combined` meets its contract. The loop's invariant: `sum` holds the bits of the sum of the first k products.
 use mathlib.Core.Path.{◌≡◌, refl}
 use mathlib.Core.List.{List}
 use Prim.Native.Nat.{ℕ, ◌+◌, ◌*◌, ◌≤◌, ◌<◌}
@@ -50,46 +48,17 @@ module _ {win w : List ℤ} {i : ℕ} (z : CombinedInput win w i) where
 
 pub loop-k-init : goal.loop-k-init
 unfolding S.sum
-loop-k-init c = (omega arith, refl)
-
-pub offset_bounds-w-k : goal.offset_bounds-w-k
-offset_bounds-w-k c = omega arith
-
-pub bounds-w-k : goal.bounds-w-k
-bounds-w-k c = search rules
-
-pub overflow_mul-sum : goal.overflow_mul-sum
-overflow_mul-sum c = omega arith
-
-pub overflow_add-sum : goal.overflow_add-sum
-overflow_add-sum c = search rules
-
-pub offset_bounds-win-k : goal.offset_bounds-win-k
-offset_bounds-win-k c = search rules
-
-pub bounds-win-k : goal.bounds-win-k
-bounds-win-k c = search rules
-
-pub overflow_mul-sum-in-loop-k : goal.overflow_mul-sum-in-loop-k
-overflow_mul-sum-in-loop-k c = let at = c in product_fits at.requires at.loop-k.k
-
-pub overflow_add-k : goal.overflow_add-k
-overflow_add-k c = omega arith
-
-pub loop-k-smaller : goal.loop-k-smaller
-loop-k-smaller c = omega arith
+loop-k-init c = refl
 
 pub overflow_add-sum-in-loop-k : goal.overflow_add-sum-in-loop-k
-overflow_add-sum-in-loop-k c = rw c.loop-k.invariant.1 (total_fits c.requires c.loop-k.k (omega arith))
+overflow_add-sum-in-loop-k c = rw c.loop-k.invariant (total_fits c.requires c.loop-k.k (omega arith))
 
 pub loop-k-preserved : goal.loop-k-preserved
 loop-k-preserved c =
     let z = c.requires in
     let l : c.loop-k.k < 12 = omega arith in
-    (omega arith, rw (c.loop-k.invariant.1, back (total_fits z c.loop-k.k l), total_is z c.loop-k.k l))
+    rw (c.loop-k.invariant, back (total_fits z c.loop-k.k l), total_is z c.loop-k.k l)
 
 pub returns : goal.returns
 unfolding combined
-returns c =
-    let all : c.loop-k.k ≡ 12 = omega arith in
-    rw (c.loop-k.invariant.1, all)
+returns c = let all : c.loop-k.k ≡ 12 = omega arith in rw (c.loop-k.invariant, all)

@@ -1,7 +1,5 @@
--- `measuring::combined` meets its contract. The loop's invariant: `sum` is the sum of the first k products. The measure is what is left
--- of the twelve.
+-- `measuring::combined` meets its contract. The loop's invariant: `sum` is the sum of the first k products.
 use mathlib.Core.Path.{◌≡◌}
-use Prim.Native.Nat.{◌-◌, ◌≤◌}
 use lib.IntN.{pos, ◌*ℤ◌}
 use lib.ListN.{get_or}
 use Rattle.integer.specs.Sum as S
@@ -9,7 +7,4 @@ use Rattle.measuring.specs.Folded.{column}
 use Rattle.measuring.proofs.combined.Given as goal
 
 abbrev pub invariant-loop-k : goal.invariant-loop-k
-invariant-loop-k l = (l.k ≤ 12) × (l.sum ≡ S.sum l.k (λ j. get_or l.w j (pos 0) *ℤ column l.win l.i j))
-
-abbrev pub decreases-loop-k : goal.decreases-loop-k
-decreases-loop-k l = 12 - l.k
+invariant-loop-k l = l.sum ≡ S.sum l.k (λ j. get_or l.w j (pos 0) *ℤ column l.win l.i j)

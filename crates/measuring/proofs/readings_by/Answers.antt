@@ -1,6 +1,5 @@
 -- `measuring::readings_by` meets its contract: for a window that has these currents, what a system's harmonics hold back is that of the
 -- definitions, and so is its reading.
-use borrow.Author.Rules.{rules}
 use mathlib.Core.Path.{◌≡◌, ◌∙◌}
 use mathlib.Core.Bool.{Bool, ◌&&◌, ◌||◌}
 use mathlib.Core.List.{List}
@@ -13,24 +12,6 @@ use Rattle.characteristic.specs.Characteristic.{starts, held_by, common_on}
 use Rattle.measuring.specs.declared.Reading.{Reading}
 use Rattle.measuring.specs.Measuring.{harmonics, holding, blocked, currents_of, reading_of, readings_of}
 use Rattle.measuring.proofs.readings_by.Goals as goal
-
-pub blocking-by_a-requires : goal.blocking-by_a-requires
-blocking-by_a-requires c = search rules
-
-pub blocking-by_b-requires : goal.blocking-by_b-requires
-blocking-by_b-requires c = search rules
-
-pub blocking-by_c-requires : goal.blocking-by_c-requires
-blocking-by_c-requires c = search rules
-
-pub common-any-requires : goal.common-any-requires
-common-any-requires c = search rules
-
-pub system_reading-requires : goal.system_reading-requires
-system_reading-requires c = search rules
-
-pub system_reading-requires-3 : goal.system_reading-requires-3
-system_reading-requires-3 c = search rules
 
 -- a system's currents are those of the definitions, so what its harmonics hold back and its reading are
 module _ (v : Setting) (win : List ℤ) (l : System) {cur : Currents} (e : cur ≡ currents_of v.ends win l) where
@@ -56,20 +37,16 @@ blocked_is v win by-a by-b by-c e l own h = rw (h, e, by-a, by-b, by-c)
 pub returns : goal.returns
 unfolding readings_of
 returns c win a b d =
-    let all = c in
-    let by-c = all in
-    let by-b = by-c in
-    let by-a = by-b in
-    let v = by-a.args.v in
+    let v = c.args.v in
     let is =
     blocked_is v win
-    (others_is v win sys_a a by-a.blocking-by_a.ensures)
-    (others_is v win sys_b b by-b.blocking-by_b.ensures)
-    (others_is v win sys_c d by-c.blocking-by_c.ensures)
-    all.common-any.ensures
+    (others_is v win sys_a a c.blocking-by_a.ensures)
+    (others_is v win sys_b b c.blocking-by_b.ensures)
+    (others_is v win sys_c d c.blocking-by_c.ensures)
+    c.common-any.ensures
     in
     rw (
-      reading_is v win sys_a a (is sys_a _ (own_is v win sys_a a by-a.blocking-by_a.ensures)) c.system_reading.ensures,
-      reading_is v win sys_b b (is sys_b _ (own_is v win sys_b b by-b.blocking-by_b.ensures)) c.system_reading-2.ensures,
-      reading_is v win sys_c d (is sys_c _ (own_is v win sys_c d by-c.blocking-by_c.ensures)) c.system_reading-3.ensures,
+      reading_is v win sys_a a (is sys_a _ (own_is v win sys_a a c.blocking-by_a.ensures)) c.system_reading.ensures,
+      reading_is v win sys_b b (is sys_b _ (own_is v win sys_b b c.blocking-by_b.ensures)) c.system_reading-2.ensures,
+      reading_is v win sys_c d (is sys_c _ (own_is v win sys_c d c.blocking-by_c.ensures)) c.system_reading-3.ensures,
     )
