@@ -1,4 +1,4 @@
-// The lines that the bench program prints, put in a lent buffer: that of a set, of at most 67 bytes, and that of a refusal, of at most 12.
+// The lines that the bench program prints, put at the end of a text: that of a set, of at most 67 bytes, and that of a refusal, of at most 12.
 
 #![tactic(auto)]
 
@@ -9,50 +9,52 @@ ghost use Rattle.line.specs.Line.{currents, refused, PutsFew, columns_of, line_o
 use refusal::Refusal;
 use relay::Answer;
 use state::Trip;
+use text::Text;
 
 // Three D.
-fn put_currents(buffer: &mut [u8], at: usize, d1: u32, d2: u32, d3: u32) -> usize
-    requires { at + 33 ≤ length buffer.old }
-    ensures { PutsFew 33 (currents d1 d2 d3) buffer.old at buffer.new result }
+fn put_currents<const N: usize>(text: &mut Text<N>, d1: u32, d2: u32, d3: u32)
+    requires { length text.old + 33 ≤ N }
+    ensures { PutsFew 33 (currents d1 d2 d3) text.old text.new }
 {
-    let a = text::put_field(buffer, at, d1 as u64);
-    let b = text::put_field(buffer, a, d2 as u64);
-    text::put_field(buffer, b, d3 as u64)
+    text.put_field(u64::from(d1));
+    text.put_field(u64::from(d2));
+    text.put_field(u64::from(d3));
 }
 
 // F or M, and the three D; they are 0 while the window fills.
-fn put_answer(buffer: &mut [u8], at: usize, answer: Answer) -> usize
-    requires { at + 35 ≤ length buffer.old }
-    ensures { PutsFew 35 (columns_of answer) buffer.old at buffer.new result }
+fn put_answer<const N: usize>(text: &mut Text<N>, answer: Answer)
+    requires { length text.old + 35 ≤ N }
+    ensures { PutsFew 35 (columns_of answer) text.old text.new }
 {
-    let Answer::Measured(a, b, c, _) = answer else {
-        let after = text::put(buffer, at, b" F");
-        return put_currents(buffer, after, 0, 0, 0);
-    };
-    let in_a = a.reading;
-    let in_b = b.reading;
-    let in_c = c.reading;
-    let after = text::put(buffer, at, b" M");
-    put_currents(buffer, after, in_a.d, in_b.d, in_c.d)
+    match answer {
+        Answer::Measured(a, b, c, _) => {
+            text.put(b" M");
+            put_currents(text, a.reading.d, b.reading.d, c.reading.d);
+        }
+        _ => {
+            text.put(b" F");
+            put_currents(text, 0, 0, 0);
+        }
+    }
 }
 
 // A set's line: its number, F or M, the three D, and the sum for the systems latched.
-pub fn put_line(buffer: &mut [u8], at: usize, number: u64, answer: Answer, trip: Trip) -> usize
-    requires { at + 67 ≤ length buffer.old }
-    ensures { PutsFew 67 (line_of number answer trip) buffer.old at buffer.new result }
+pub fn put_line<const N: usize>(text: &mut Text<N>, number: u64, answer: Answer, trip: Trip)
+    requires { length text.old + 67 ≤ N }
+    ensures { PutsFew 67 (line_of number answer trip) text.old text.new }
 {
-    let a = text::put_number(buffer, at, number);
-    let b = put_answer(buffer, a, answer);
-    let c = text::put_field(buffer, b, state::latched(trip) as u64);
-    text::put(buffer, c, b"\n")
+    text.put_number(number);
+    put_answer(text, answer);
+    text.put_field(u64::from(state::latched(trip)));
+    text.put(b"\n");
 }
 
 // `refused` and the number of a refusal.
-pub fn put_refused(buffer: &mut [u8], at: usize, r: Refusal) -> usize
-    requires { at + 12 ≤ length buffer.old }
-    ensures { PutsFew 12 (refused (told_of r)) buffer.old at buffer.new result }
+pub fn put_refused<const N: usize>(text: &mut Text<N>, r: Refusal)
+    requires { length text.old + 12 ≤ N }
+    ensures { PutsFew 12 (refused (told_of r)) text.old text.new }
 {
-    let a = text::put(buffer, at, b"refused");
-    let b = text::put_field(buffer, a, refusal::number(r) as u64);
-    text::put(buffer, b, b"\n")
+    text.put(b"refused");
+    text.put_field(u64::from(refusal::number(r)));
+    text.put(b"\n");
 }

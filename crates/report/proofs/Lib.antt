@@ -1,4 +1,3 @@
--- The text that a step's buffer holds; the loop over a block's sets; the steps one after the other.
-mod Holding
+-- A block's sets, one after the other; the steps one after the other.
 mod Going
 mod Whole

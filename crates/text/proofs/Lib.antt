@@ -1,3 +1,3 @@
--- Laws of texts: a number's digits are the fewest and how many they can be; texts put one after the other.
+-- Laws of texts: a number's digits are the fewest and how many they can be; text put in a buffer, and what is left after it.
 pub mod Decimal
 pub mod Putting

@@ -1,92 +1,98 @@
-// Text put together in a lent buffer, so that a program writes it in large pieces: a caller shows that there is room for it. And numbers written to
-// standard output one by one.
+// Text of fixed memory, put together so that a program writes it in large pieces: a caller shows that there is room for what is put.
 
 #![tactic(auto)]
 
-ghost use Rattle.std.specs.Prelude.{◌≡◌, ◌≤◌, nat_abs, length};
+ghost use Rattle.std.specs.Prelude.{◌≡◌, ◌+◌, ◌≤◌, [], ◌++◌, length};
 ghost use Rattle.text.specs.Text.{FewestPlaces, decimal, field, Room, Puts};
+
+use std::marker::Model;
 
 // Puts s at a place of the buffer, and answers the place after it.
 pub fn put(buffer: &mut [u8], at: usize, s: &[u8]) -> usize
     requires { Room buffer.old at s.now }
     ensures { Puts s.now buffer.old at buffer.new result }
 {
-    let mut i: usize = 0;
-    while i < s.len() {
-        buffer[at + i] = s[i];
-        i += 1;
-    }
-    at + i
+    let end = at + s.len();
+    buffer[at..end].copy_from_slice(s);
+    end
 }
 
-// Puts a number in decimal.
-pub fn put_number(buffer: &mut [u8], at: usize, n: u64) -> usize
-    requires { Room buffer.old at (decimal n) }
-    ensures { Puts (decimal n) buffer.old at buffer.new result }
-{
-    let mut digits = [0u8; 20];
-    let k = io::decimal(n, &mut digits);
-    put(buffer, at, &digits[..k])
+// A text of at most N bytes; zeros stand after it.
+#[derive(Clone, Copy)]
+pub struct Text<const N: usize> {
+    bytes: [u8; N],
+    len: usize,
+}
+
+impl<const N: usize> Model for Text<N> {
+    ghost use Rattle.std.specs.Prelude.{◌≡◌, ℕ, ◌-◌, ◌≤◌, List, ◌++◌, length, take, drop, replicate};
+    ghost use Rattle.std.proofs.Common.{arith, sym, ap, ◌∙◌, length-take-le, take-append-drop};
+
+    ghost Value = { List ℕ };
+
+    ghost view = { λ t. take t.len t.bytes };
+
+    ghost invariant = { λ t. (t.len ≤ N) × (length t.bytes ≡ N) × (drop t.len t.bytes ≡ replicate (N - t.len) 0) };
+
+    ghost inverse = { λ s. record { bytes = s ++ replicate (N - length s) 0; len = length s } };
+
+    ghost inverse_ok = { λ t h i.
+        let long = length-take-le t.len t.bytes (omega (arith, h.0, h.1)) in
+        record { bytes = (ap (λ n. take t.len t.bytes ++ replicate (N - n) 0) long ∙ ap (λ z. take t.len t.bytes ++ z) (sym h.2) ∙ take-append-drop t.len t.bytes) i; len = long i } };
+}
+
+impl<const N: usize> Text<N> {
+    // No text.
+    pub fn new() -> Self
+        ensures { result ≡ [] }
+    {
+        Text {
+            bytes: [0; N],
+            len: 0,
+        }
+    }
+
+    // Puts s at its end.
+    pub fn put(&mut self, s: &[u8])
+        requires { length self.old + length s.now ≤ N }
+        ensures { self.new ≡ self.old ++ s.now }
+    {
+        self.len = put(&mut self.bytes, self.len, s);
+    }
+
+    // Puts a number in decimal.
+    pub fn put_number(&mut self, n: u64)
+        requires { length self.old + length (decimal n) ≤ N }
+        ensures { self.new ≡ self.old ++ decimal n }
+    {
+        let mut digits = [0u8; 20];
+        let k = io::decimal(n, &mut digits);
+        self.put(&digits[..k]);
+    }
+
+    // Puts a space and a number.
+    pub fn put_field(&mut self, n: u64)
+        requires { length self.old + length (field n) ≤ N }
+        ensures { self.new ≡ self.old ++ field n }
+    {
+        self.put(b" ");
+        self.put_number(n);
+    }
+
+    // Its bytes.
+    pub fn as_bytes(&self) -> &[u8]
+        ensures { result.now ≡ self.now }
+    {
+        &self.bytes[..self.len]
+    }
+
+    // Writes it to standard output.
+    pub fn flush(&self) {
+        io::write_all(1, self.as_bytes());
+    }
 }
 
 // A number's text has the fewest digits that hold it.
 pub fn fewest()
     ensures { FewestPlaces }
 {}
-
-// Puts a space and a number.
-pub fn put_field(buffer: &mut [u8], at: usize, n: u64) -> usize
-    requires { Room buffer.old at (field n) }
-    ensures { Puts (field n) buffer.old at buffer.new result }
-{
-    let after = put(buffer, at, b" ");
-    put_number(buffer, after, n)
-}
-
-// Writes the first `at` bytes of the buffer to standard output.
-pub fn flush(buffer: &[u8], at: usize)
-    requires { at ≤ length buffer.now }
-{
-    io::write_all(1, &buffer[..at]);
-}
-
-// |x|
-fn magnitude(x: i64) -> u64
-    ensures { result ≡ nat_abs x }
-{
-    if x < 0 { 1 + (-1 - x) as u64 } else { x as u64 }
-}
-
-// Writes a signed number to standard output.
-pub fn print_number(x: i64) {
-    if x < 0 {
-        io::write_all(1, b"-");
-    }
-    io::print_decimal(1, magnitude(x));
-}
-
-// Writes a space and a signed number to standard output.
-pub fn print_signed(x: i64) {
-    io::write_all(1, b" ");
-    print_number(x);
-}
-
-// Writes a space and a number to standard output.
-pub fn print_field(n: u64) {
-    io::write_all(1, b" ");
-    io::print_decimal(1, n);
-}
-
-// Writes a space and a test as 0 or 1 to standard output.
-pub fn print_flag(b: bool) {
-    if b {
-        io::write_all(1, b" 1");
-    } else {
-        io::write_all(1, b" 0");
-    }
-}
-
-// Writes a line's end to standard output.
-pub fn end_line() {
-    io::write_all(1, b"\n");
-}

@@ -21,12 +21,12 @@ unmeasured (Measured x y z t) h = absurd (h x y z t refl)
 
 pub returns-in_default : goal.returns-in_default
 unfolding ascii up_to
-returns-in_default c =
+returns-in_default g c =
     rw (unmeasured c.args.answer c.in_default.not-Measured)
-    (few_then {j = 2} {k = 33} c.requires (few_of c.put-after.ensures (omega arith)) (λ room. c.put_currents.ensures))
+    (few_then {j = 2} {k = 33} (few_of c.put-in_default.ensures (omega arith)) c.put_currents-in_default.ensures)
 
-pub returns : goal.returns
+pub returns-in-Measured : goal.returns-in-Measured
 unfolding ascii up_to
-returns c =
+returns-in-Measured g c =
     rw c.in-Measured.is
-    (few_then {j = 2} {k = 33} c.requires (few_of c.put-after-2.ensures (omega arith)) (λ room. c.put_currents-2.ensures))
+    (few_then {j = 2} {k = 33} (few_of c.put.ensures (omega arith)) c.put_currents.ensures)

@@ -1,41 +1,42 @@
 -- `line::put_line` meets its contract: the number, the answer's columns, the sum for the systems latched and the line's end, put one after the other.
-use borrow.Author.Rules.{rules}
-use Prim.Native.Nat.{◌≤◌}
-use native.Mathlib.Omega.{arith}
-use lib.ListN.{length}
+use Rattle.std.proofs.Common.{rules, arith}
 use Rattle.lists.specs.Lists.{up_to}
 use Rattle.text.specs.Text.{ascii, decimal, field}
-use Rattle.line.specs.Line.{line}
-use Rattle.line.proofs.Few.{number_64, field_32, room_few, few_of, few_then}
+use Rattle.line.specs.Line.{line, PutsFew}
+use Rattle.line.proofs.Few.{number_64, field_32, few_of, grown, few_then}
 use Rattle.line.proofs.put_line.Goals as goal
-use Rattle.line.proofs.put_line.Goals.{After-latched, Start}
+use Rattle.line.proofs.put_line.Goals.{After-put_number, After-put_field}
 
-number_few : (c : Start) → length (decimal c.args.number) ≤ 20
-number_few c = number_64 c.args.number c.ranges.number.fits
+first : (g : _) (c : After-put_number g) → PutsFew 20 (decimal c.args.number) c.args.text.now c.put_number.new.self
+first g c = few_of c.put_number.ensures (number_64 c.args.number c.ranges.number.fits)
 
-sum_few : (c : After-latched) → length (field c.latched.result) ≤ 11
-sum_few c = field_32 c.latched.result (search rules)
+sum : (g : _) (c : After-put_field g) → PutsFew 11 (field c.latched.result) c.put_answer.new.text c.put_field.new.self
+sum g c = few_of (rw c.from.ensures at c.put_field.ensures) (field_32 c.latched.result (search rules))
 
-pub put_number-a-requires : goal.put_number-a-requires
-put_number-a-requires c = room_few (number_few (goal.at.put_number-a-requires c).Start) (omega arith)
+pub put_number-requires : goal.put_number-requires
+put_number-requires g c = (search rules, omega (arith, number_64 c.args.number c.ranges.number.fits))
 
-pub put_answer-b-requires : goal.put_answer-b-requires
-put_answer-b-requires c = omega (arith, number_few (goal.at.put_answer-b-requires c).Start)
+pub put_answer-requires : goal.put_answer-requires
+put_answer-requires g c = let at = goal.at.put_answer-requires g c in (search rules, omega (arith, grown (first g at.After-put_number)))
 
-pub put_field-c-requires : goal.put_field-c-requires
-put_field-c-requires c =
-    room_few (sum_few c) (omega (arith, number_few (goal.at.put_field-c-requires c).Start, c.put_answer-b.ensures.few, c.put_answer-b.ensures.puts.place))
+pub put_field-requires : goal.put_field-requires
+put_field-requires g c =
+    let at = goal.at.put_field-requires g c in (
+      search rules,
+      rw c.from.ensures
+          (omega (arith, field_32 c.latched.result (search rules), grown (first g at.After-put_number), grown c.put_answer.ensures)),
+    )
 
 pub put-requires : goal.put-requires
-put-requires c =
-    room_few {most = 1} (omega arith)
-    (omega (arith, sum_few (goal.at.put-requires c).After-latched, number_few (goal.at.put-requires c).Start, c.put_answer-b.ensures.few, c.put_answer-b.ensures.puts.place))
+put-requires g c =
+    let at = goal.at.put-requires g c in
+    (search rules, omega (arith, grown (first g at.After-put_number), grown c.put_answer.ensures, grown (sum g at.After-put_field)))
 
 pub returns : goal.returns
 unfolding line ascii up_to
-returns c =
+returns g c =
+    let at = goal.at.returns g c in
     rw (← c.latched.ensures)
-    (few_then {j = 20} {k = 47} c.requires (few_of c.put_number-a.ensures (number_few (goal.at.returns c).Start))
-    (λ room. few_then {j = 35} {k = 12} room c.put_answer-b.ensures
-    (λ room. few_then {j = 11} {k = 1} room (few_of c.put_field-c.ensures (sum_few (goal.at.returns c).After-latched))
-    (λ room. few_of c.put.ensures (omega arith)))))
+    (few_then {j = 20} {k = 47} (first g at.After-put_number)
+    (few_then {j = 35} {k = 12} c.put_answer.ensures
+    (few_then {j = 11} {k = 1} (sum g at.After-put_field) (few_of c.put.ensures (omega arith)))))

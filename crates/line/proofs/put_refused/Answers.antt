@@ -1,29 +1,33 @@
 -- `line::put_refused` meets its contract: the word, the number and the line's end, put one after the other.
-use borrow.Author.Rules.{rules}
-use Prim.Native.Nat.{◌≤◌}
-use native.Mathlib.Omega.{arith}
-use lib.ListN.{length}
+use Rattle.std.proofs.Common.{rules, arith}
 use Rattle.lists.specs.Lists.{up_to}
 use Rattle.text.specs.Text.{ascii, field}
-use Rattle.line.specs.Line.{refused}
-use Rattle.line.proofs.Few.{field_8, room_few, few_of, few_then}
+use Rattle.line.specs.Line.{refused, PutsFew}
+use Rattle.line.proofs.Few.{field_8, few_of, grown, few_then}
 use Rattle.line.proofs.put_refused.Goals as goal
-use Rattle.line.proofs.put_refused.Goals.{After-number}
+use Rattle.line.proofs.put_refused.Goals.{After-put, After-put_field}
 
--- the number has at most three digits
-number_few : (c : After-number) → length (field c.number.result) ≤ 4
-number_few c = field_8 c.number.result (search rules)
+word : (g : _) (c : After-put g) → PutsFew 7 (ascii "refused") c.args.text.now c.put.new.self
+unfolding ascii up_to
+word g c = few_of c.put.ensures (omega arith)
 
-pub put_field-b-requires : goal.put_field-b-requires
-put_field-b-requires c = room_few (number_few c) (omega arith)
+number : (g : _) (c : After-put_field g) → PutsFew 4 (field c.number.result) c.put.new.self c.put_field.new.self
+number g c = few_of (rw c.from.ensures at c.put_field.ensures) (field_8 c.number.result (search rules))
 
-pub put-requires : goal.put-requires
-put-requires c = room_few {most = 1} (omega arith) (omega (arith, number_few (goal.at.put-requires c).After-number))
+pub put_field-requires : goal.put_field-requires
+put_field-requires g c =
+    let at = goal.at.put_field-requires g c in
+    (search rules, rw c.from.ensures (omega (arith, field_8 c.number.result (search rules), grown (word g at.After-put))))
+
+pub put-requires-2 : goal.put-requires-2
+put-requires-2 g c =
+    let at = goal.at.put-requires-2 g c in
+    (search rules, omega (arith, grown (word g at.After-put), grown (number g at.After-put_field)))
 
 pub returns : goal.returns
 unfolding refused ascii up_to
-returns c =
+returns g c =
+    let at = goal.at.returns g c in
     rw (← c.number.ensures)
-    (few_then {j = 7} {k = 5} c.requires (few_of c.put-a.ensures (omega arith))
-    (λ room. few_then {j = 4} {k = 1} room (few_of c.put_field-b.ensures (number_few (goal.at.returns c).After-number))
-    (λ room. few_of c.put.ensures (omega arith))))
+    (few_then {j = 7} {k = 5} (word g at.After-put)
+    (few_then {j = 4} {k = 1} (number g at.After-put_field) (few_of c.put-2.ensures (omega arith))))
