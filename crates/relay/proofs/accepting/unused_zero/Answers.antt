@@ -1,3 +1,4 @@
+-- `relay::accepting::unused_zero` meets its contract: the part from the first unused end on is what is left of the set there.
 use Rattle.std.proofs.Common.{ℕ, ◌-◌, rules, tests, pos, List, ◌≡◌, ◌*◌, take, drop, length, length-drop}
 use Rattle.std.proofs.Math.Seq.{take-length}
 use Rattle.std.proofs.lemmas.Iterator.{YieldsList-from_slice}
@@ -12,5 +13,8 @@ pub returns-in-Some : goal.returns-in-Some
 unfolding eq_z
 returns-in-Some c =
     let xs = c.args.set.now in
-    let e : drop (3 * c.args.ends) xs ≡ c.in-Some.unused.now = cc (c.from.ensures, c.in-Some.ensures.lookup.0.2, to_end (3 * c.args.ends) xs) in
-    rw e (all_from_yields_List (λ x. eq_z x (pos 0)) _ _ c.all.result c.all.ensures.ran (YieldsList-from_slice c.in-Some.unused.now cc) (λ x b q k. search (rules, tests)))
+    let n = 3 * c.args.ends in
+    let e : drop n xs ≡ c.in-Some.unused.now = cc (c.from.ensures, c.in-Some.ensures.lookup.0.2, to_end n xs) in
+    let all = c.all.ensures.ran in
+    rw e
+    (all_from_yields_List (λ x. eq_z x (pos 0)) _ _ c.all.result all (YieldsList-from_slice c.in-Some.unused.now cc) (λ x b q k. search (rules, tests)))
