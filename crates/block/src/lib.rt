@@ -71,14 +71,13 @@ pub fn checked(s: &[u8; 512]) -> bool
 }
 
 // The block with its check put in.
-pub fn seal(b: [u8; 512]) -> [u8; 512]
+pub fn seal(mut b: [u8; 512]) -> [u8; 512]
     ensures { result ≡ sealed (take 510 b) }
 {
     let c = check_sums(&b[..510]);
-    let mut t = b;
-    t[510] = c.a;
-    t[511] = c.b;
-    t
+    b[510] = c.a;
+    b[511] = c.b;
+    b
 }
 
 // Puts a block at the start of a buffer.

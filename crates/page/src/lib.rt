@@ -26,17 +26,14 @@ pub struct Events {
 pub fn within(e: Events) -> bool
     ensures { result ≡ hold (within_of e) }
 {
-    if 7 < e.flags {
-        return false;
-    }
-    e.mask <= 7
+    e.flags <= 7 && e.mask <= 7
 }
 
 // Whether a bit is set that was not before: so a start or a trip is new.
 fn is_new(before: Bits, after: Bits) -> bool
     ensures { result ≡ new before after }
 {
-    bits::some(bits::without(after, before))
+    (after - before).some()
 }
 
 // The events with some flags raised.
@@ -44,8 +41,8 @@ pub fn raised(new: Bits, e: Events) -> Events
     ensures { result ≡ raised_by new e }
 {
     Events {
-        flags: bits::mask_of(bits::either(bits::bits_of(e.flags), new)),
-        mask: e.mask,
+        flags: u8::from(Bits::from(e.flags) | new),
+        ..e
     }
 }
 
@@ -54,8 +51,8 @@ fn lowered(x: u8, e: Events) -> Events
     ensures { result ≡ lowered_by x e }
 {
     Events {
-        flags: bits::mask_of(bits::without(bits::bits_of(e.flags), bits::bits_of(x))),
-        mask: e.mask,
+        flags: u8::from(Bits::from(e.flags) - Bits::from(x)),
+        ..e
     }
 }
 
@@ -63,34 +60,25 @@ fn lowered(x: u8, e: Events) -> Events
 fn masked(x: u8, e: Events) -> Events
     ensures { result ≡ masked_by x e }
 {
-    Events {
-        flags: e.flags,
-        mask: x % 8,
-    }
+    Events { mask: x % 8, ..e }
 }
 
 // With a byte written at an offset of the page: 3 and 4 change them.
 pub fn written(at: usize, x: u8, e: Events) -> Events
     ensures { result ≡ written_at at x e }
 {
-    if at == 3 {
-        return lowered(x, e);
+    match at {
+        3 => lowered(x, e),
+        4 => masked(x, e),
+        _ => e,
     }
-    if at == 4 {
-        return masked(x, e);
-    }
-    e
 }
 
 // 1 while a flag and its mask bit are both set.
 fn interrupt(e: Events) -> u8
     ensures { result ≡ interrupt_of e }
 {
-    if bits::some(bits::both(bits::bits_of(e.flags), bits::bits_of(e.mask))) {
-        1
-    } else {
-        0
-    }
+    u8::from((Bits::from(e.flags) & Bits::from(e.mask)).some())
 }
 
 // The systems that start, and those that are blocked.
@@ -134,14 +122,11 @@ fn current_byte(t: Trip, m: Readings, e: Events, at: usize) -> u8
     requires { 6 ≤ at }
     ensures { result ≡ get_or (page t m e) at 0 }
 {
-    if at < 8 {
-        return 0;
-    }
-    if 32 <= at {
+    if at < 8 || 32 <= at {
         return 0;
     }
     let i = at - 8;
-    let bytes = block::bytes_32(current(m, i / 4));
+    let bytes = current(m, i / 4).to_le_bytes();
     bytes[i % 4]
 }
 
@@ -150,9 +135,9 @@ fn byte(t: Trip, m: Readings, e: Events, at: usize) -> u8
     ensures { result ≡ get_or (page t m e) at 0 }
 {
     match at {
-        0 => bits::mask_of(state::latches(t)),
-        1 => bits::mask_of(starts(m)),
-        2 => bits::mask_of(blocks(m)),
+        0 => u8::from(state::latches(t)),
+        1 => u8::from(starts(m)),
+        2 => u8::from(blocks(m)),
         3 => e.flags,
         4 => e.mask,
         5 => interrupt(e),
@@ -164,13 +149,7 @@ fn byte(t: Trip, m: Readings, e: Events, at: usize) -> u8
 fn shows_measured(at: usize) -> bool
     ensures { result ≡ measured_at at }
 {
-    if at < 8 {
-        if at == 1 {
-            return true;
-        }
-        return at == 2;
-    }
-    at < 32
+    matches!(at, 1 | 2 | 8..=31)
 }
 
 // What is shown where the window is not full.

@@ -21,10 +21,7 @@ fn starts_anew(v: Setting, win: &[i32], starts: bool, y: usize) -> bool
     requires { SystemInput v win.now y }
     ensures { result ≡ (starts && not (start v win.now (system y))) }
 {
-    if !starts {
-        return false;
-    }
-    !measuring::started(v, win, y)
+    starts && !measuring::started(v, win, y)
 }
 
 // Whether any system does.
@@ -32,13 +29,9 @@ fn one_starts_anew(v: Setting, win: &[i32], m: Readings) -> bool
     requires { Measurable v win.now }
     ensures { result ≡ new (starts_of (readings_of v win.now)) (starts_of m) }
 {
-    if starts_anew(v, win, m.a.start, 0) {
-        return true;
-    }
-    if starts_anew(v, win, m.b.start, 1) {
-        return true;
-    }
-    starts_anew(v, win, m.c.start, 2)
+    starts_anew(v, win, m.a.start, 0)
+        || starts_anew(v, win, m.b.start, 1)
+        || starts_anew(v, win, m.c.start, 2)
 }
 
 // Whether a system starts that did not at the last accepted set.
@@ -47,10 +40,9 @@ fn new_since(v: Setting, w: Window, m: Readings) -> bool
     ensures { result ≡ new (starts_of (shown v w)) (starts_of m) }
 {
     if w.fill < 12 {
-        return bits::some(crate::starts(m));
+        return crate::starts(m).some();
     }
-    let values = w.values;
-    one_starts_anew(v, &values, m)
+    one_starts_anew(v, &w.values, m)
 }
 
 // Whether the flag of a new start is to be raised. Where it is raised already nothing is looked at.
@@ -58,21 +50,14 @@ fn new_start(v: Setting, w: Window, e: Events, m: Readings) -> bool
     requires { Held v w }
     ensures { let flag = (bits_of e.flags).b0 in (flag || result) ≡ (flag || new (starts_of (shown v w)) (starts_of m)) }
 {
-    let flags = bits::bits_of(e.flags);
-    if flags.b0 {
-        return false;
-    }
-    new_since(v, w, m)
+    !Bits::from(e.flags).b0 && new_since(v, w, m)
 }
 
 // Whether a set raises no flag, without a look at what started before it: no system starts, and no latch is new.
 fn nothing_new(m: Readings, before: Trip, after: Trip) -> bool
     ensures { result ≡ nothing_new m before after }
 {
-    if bits::some(crate::starts(m)) {
-        return false;
-    }
-    !crate::is_new(state::latches(before), state::latches(after))
+    !crate::starts(m).some() && !crate::is_new(state::latches(before), state::latches(after))
 }
 
 // The events after a set that measures m and leaves the latches after, from the setting, the window, the latches and the events before it.

@@ -152,5 +152,5 @@ pub fn latches(t: Trip) -> Bits
 pub fn latched(t: Trip) -> u8
     ensures { result ≡ latch_sum t }
 {
-    bits::mask_of(latches(t))
+    u8::from(latches(t))
 }

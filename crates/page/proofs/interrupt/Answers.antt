@@ -1,31 +1,14 @@
 -- `page::interrupt` meets its contract, by those of its callees.
-use mathlib.Core.Path.{◌≡◌, ◌∙◌}
-use Rattle.bits.specs.Bits.{bits_of, both, some}
+use mathlib.Core.Path.{◌≡◌, refl}
+use mathlib.Core.Bool.{Bool, true, false, cond}
+use Rattle.std.specs.Int.{from_bool}
 use Rattle.page.specs.Events.{interrupt}
-use borrow.Author.Rules.{rules}
 use Rattle.page.proofs.interrupt.Goals as goal
-use Rattle.page.proofs.interrupt.Goals.{After-some}
 
-pub bits_of-requires : goal.bits_of-requires
-bits_of-requires c = search rules
+one : (b : Bool) → from_bool b ≡ cond b 1 0
+one true = refl
+one false = refl
 
-pub bits_of-requires-2 : goal.bits_of-requires-2
-bits_of-requires-2 c = search rules
-
-pub both-requires : goal.both-requires
-both-requires c = search rules
-
-pub some-requires : goal.some-requires
-some-requires c = search rules
-
--- whether a flag and its mask bit are both set
-both_set : (c : After-some) → let e = c.args.e in c.some.result ≡ some (both (bits_of e.flags) (bits_of e.mask))
-both_set c = c.some.ensures ∙ rw (c.both.ensures, c.bits_of.ensures, c.bits_of-2.ensures)
-
-pub returns-then-some : goal.returns-then-some
+pub returns : goal.returns
 unfolding interrupt
-returns-then-some c = rw (← (both_set (goal.at.returns-then-some c).After-some), c.if-some.true)
-
-pub returns-else-some : goal.returns-else-some
-unfolding interrupt
-returns-else-some c = rw (← (both_set (goal.at.returns-else-some c).After-some), c.if-some.false)
+returns c = rw (c.from-3.ensures, c.some.ensures, c.bitand.ensures, c.from.ensures, c.from-2.ensures) (one _)

@@ -5,13 +5,8 @@ use Rattle.page.specs.Page.{nothing, shown, measured_at}
 use Rattle.page.proofs.Offsets.{unmeasured}
 use Rattle.page.proofs.showing.byte_at.Goals as goal
 
-pub returns-then-shows_measured : goal.returns-then-shows_measured
-returns-then-shows_measured c = c.byte.ensures ∙ rw c.shown.ensures
-
 pub returns : goal.returns
 returns c =
-    let else1 = c in
-    let start = else1 in
-    let a = start.args in
-    let hidden : measured_at a.offset ≡ false = sym else1.shows_measured.ensures ∙ else1.if-shows_measured.false in
+    let a = c.args in
+    let hidden : measured_at a.offset ≡ false = sym c.shows_measured.ensures ∙ c.if-shows_measured.false in
     c.byte-2.ensures ∙ rw c.nothing.ensures (unmeasured a.t nothing (shown a.v a.w) a.e a.offset hidden)
