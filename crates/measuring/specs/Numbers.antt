@@ -8,7 +8,8 @@ use Rattle.lists.specs.Lists.{up_to}
 use Rattle.setting.specs.Values.{factor, factor_high, factors_low, start_rows}
 use Rattle.setting.specs.Worked.{rated, two_ends, plain}
 use Rattle.setting.specs.Verdicts.{told_by}
-use Rattle.matching.specs.Matching.{Three, three, operation, operated, matched}
+use Rattle.matching.specs.declared.Three.{Three}
+use Rattle.matching.specs.Matching.{three, operation, operated, matched}
 use Rattle.matching.specs.Sets.{sys_a, sys_b, sys_c, seen}
 use Rattle.amplitude.specs.Amplitude.{t, weighted_sum, cycle, amplitude}
 use Rattle.characteristic.specs.Characteristic.{starts}

@@ -16,7 +16,8 @@ use Rattle.setting.specs.declared.Setting.{Setting}
 use Rattle.setting.specs.Values.{end_of, factor, factor_high, factors_low, start_rows, startable}
 use Rattle.setting.specs.Worked.{yd5}
 use Rattle.setting.proofs.LimitLaws.{startable_is}
-use Rattle.matching.specs.Matching.{Three, three, operation, sum3}
+use Rattle.matching.specs.declared.Three.{Three}
+use Rattle.matching.specs.Matching.{three, operation, sum3}
 use Rattle.matching.specs.Sets.{seen, phases, filtered}
 use Rattle.matching.specs.Bank.{line_current, gained, ideal}
 use Rattle.matching.specs.Neutral.{NeutralBefore}
