@@ -1,7 +1,6 @@
 // The relay's calls: start, sample and reset. Sample and reset take the record by value and hand it back beside the answer.
 
 ghost use Rattle.std.specs.Prelude.{◌≡◌, cond};
-ghost use Rattle.refusal.specs.declared.Verdict.TheVariants.{Refused};
 ghost use Rattle.refusal.specs.Refusals.{gives, declines, told_of};
 ghost use Rattle.relay.specs.Calls.{reply_now, relay_now, refused_relay, cleared as cleared_of, Gives, Samples, Resets, Starts};
 ghost use Rattle.relay.specs.CallInput.{element_by, trip_after, FillingNow, FullNow};
@@ -11,7 +10,7 @@ use bits::Bits;
 use measuring::{Reading, Readings};
 use overcurrent::Backup;
 use page::Events;
-use refusal::{Refusal, Verdict};
+use refusal::Refusal;
 use setting::{Setting, factors};
 use state::{Element, Trip, Window};
 
@@ -129,10 +128,10 @@ fn refused(r: Relay, why: Refusal, set: bool) -> Sampled
 
 // A refusal of a reset or a write, with the record as before.
 pub fn declined(r: Relay, why: Refusal) -> Returned
-    ensures { result ≡ record { verdict = Refused why; relay = r } }
+    ensures { result ≡ record { verdict = Err why; relay = r } }
 {
     Returned {
-        verdict: Verdict::Refused(why),
+        verdict: Err(why),
         relay: r,
     }
 }
@@ -167,7 +166,7 @@ impl Relay {
             return refused(self, Refusal::Record, false);
         }
         let v = self.setting;
-        if let Verdict::Refused(why) = accepting::set_verdict(v, set) {
+        if let Err(why) = accepting::set_verdict(v, set) {
             return refused(self, why, true);
         }
         let old = self.window;
@@ -187,7 +186,7 @@ impl Relay {
             return declined(self, Refusal::Record);
         }
         Returned {
-            verdict: Verdict::Accepted,
+            verdict: Ok(()),
             relay: cleared(self),
         }
     }

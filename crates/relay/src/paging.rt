@@ -4,7 +4,7 @@ ghost use Rattle.std.specs.Prelude.{◌≡◌, ◌||◌, eqb};
 ghost use Rattle.relay.specs.Page.{resets as resets_of, written as written_of, Reads, Writes};
 
 use crate::{PageByte, PageRead, Relay, Returned, accepting, calls};
-use refusal::{Refusal, Verdict};
+use refusal::Refusal;
 
 // 1 written to byte 7.
 fn resets(offset: usize, byte: u8) -> bool
@@ -84,7 +84,7 @@ impl Relay {
             return calls::declined(self, Refusal::Record);
         }
         Returned {
-            verdict: Verdict::Accepted,
+            verdict: Ok(()),
             relay: written(self, offset, byte),
         }
     }
