@@ -15,13 +15,12 @@ pub fn measured(v: Setting, win: &[i32], b: Backup) -> Watched
     let readings = m.readings;
     if o.curve == 0 {
         return Watched {
-            readings: readings,
+            readings,
             backup: b,
         };
     }
-    let amplitudes = m.amplitudes;
     Watched {
-        readings: readings,
-        backup: crate::backup_after(v.ends, o.curve, o.pickup, amplitudes, b),
+        readings,
+        backup: crate::backup_after(v.ends, o.curve, o.pickup, m.amplitudes, b),
     }
 }
