@@ -30,11 +30,7 @@ fn element_now(v: Setting, m: Reading, e: Element) -> Element
 pub fn trip_after(v: Setting, m: Readings, t: Trip) -> Trip
     ensures { result ≡ trip_after v m t }
 {
-    Trip {
-        a: element_now(v, m.a, t.a),
-        b: element_now(v, m.b, t.b),
-        c: element_now(v, m.c, t.c),
-    }
+    m.map_with(t, |m, e| element_now(v, m, e))
 }
 
 // The record of the same setting with other parts: the window, counters and latches, events, overcurrent sums and trips.
@@ -58,11 +54,7 @@ fn filling(r: Relay, w: Window) -> Sampled
 {
     let v = r.setting;
     let t = r.trip;
-    let trip = Trip {
-        a: state::element_after(v.confirm, false, t.a),
-        b: state::element_after(v.confirm, false, t.b),
-        c: state::element_after(v.confirm, false, t.c),
-    };
+    let trip = t.map(|e| state::element_after(v.confirm, false, e));
     Sampled {
         answer: Answer::Filling(w.fill),
         relay: renewed(r, w, trip, r.events, r.backup),
