@@ -11,9 +11,10 @@ pub fn measured(v: Setting, win: &[i32], b: Backup) -> Watched
     ensures { Watches v win.now b result }
 {
     let o = v.overcurrent;
-    let m = measuring::measure_ends(v, win, o.curve != 0);
+    let on = o.curve != 0;
+    let m = measuring::measure_ends(v, win, on);
     let readings = m.readings;
-    if o.curve == 0 {
+    if !on {
         return Watched {
             readings,
             backup: b,

@@ -23,10 +23,10 @@ use Rattle.overcurrent.proofs.watching.measured.Goals as goal
 
 -- ---- the curve is 0
 
-pub returns-then-o-eq0 : goal.returns-then-o-eq0
+pub returns-then-not-on : goal.returns-then-not-on
 unfolding backup_by
-returns-then-o-eq0 c =
-    record { readings = c.measure_ends-m.ensures.readings; backup = sym (after_off _ _ _ _ _ (eq-eqb _ _ c.if-o-eq0.true)) }
+returns-then-not-on c =
+    record { readings = c.measure_ends-m.ensures.readings; backup = sym (after_off _ _ _ _ _ (eq-eqb _ _ c.if-not-on.true)) }
 
 -- ---- it is not
 
@@ -41,14 +41,14 @@ module _ {v : Setting} {win : List ℤ} {asked : Bool} {r : WithEnds} (m : Measu
 
 pub backup_after-requires : goal.backup_after-requires
 backup_after-requires c =
-    let on : TimersOn c.args.v.overcurrent = c.requires.on (ne_eqb _ _ c.if-o-eq0.false) in
+    let on : TimersOn c.args.v.overcurrent = c.requires.on (ne_eqb _ _ c.if-not-on.false) in
     record { on = on.some; pickup = omega (arith, on.pickup); small = c.measure_ends-m.ensures.small; sums = c.requires.sums }
 
 pub returns : goal.returns
 unfolding backup_by
 returns c =
     let curve = c.args.v.overcurrent.curve in
-    let asked : T (not (eqb curve 0)) = rw (ne_eqb curve 0 c.if-o-eq0.false) tt in
+    let asked : T (not (eqb curve 0)) = rw (ne_eqb curve 0 c.if-not-on.false) tt in
     record {
       readings = c.measure_ends-m.ensures.readings;
       backup = c.backup_after.ensures ∙ after_same _ _ _ _ _ _ (largest_at c.measure_ends-m.ensures asked);
