@@ -19,7 +19,7 @@ use Rattle.setting.specs.declared.Setting.{Setting}
 use Rattle.setting.specs.Values.{end_of, factor, startable}
 use Rattle.setting.specs.Limits.{factor_or0}
 use Rattle.setting.proofs.LimitLaws.{startable_is}
-use Rattle.matching.specs.declared.Trio.{Trio}
+use Rattle.systems.specs.declared.Systems.{Systems}
 use Rattle.matching.specs.declared.Three.{Three}
 use Rattle.matching.specs.Matching.{even, operated, matched}
 use Rattle.matching.specs.Sets.{System, sys_a, sys_b, sys_c, from_next, seen, phases, filtered, matched_at, place_of, trio_at}
@@ -116,6 +116,6 @@ module _ {v : Setting} {ws xs : List ℤ} (a : SetInput v ws xs) (z : ℕ) (l : 
       by false e = refl
 
 -- the trio of an end that is made by weights is the definition's
-pub weighed_trio_lem : {v : Setting} {ws xs : List ℤ} → SetInput v ws xs → (z : ℕ) {r : Trio} → r ≡ weighed_trio v.ends ws xs z → z < 4 → r ≡ trio_at v xs z
+pub weighed_trio_lem : {v : Setting} {ws xs : List ℤ} → SetInput v ws xs → (z : ℕ) {r : Systems ℤ} → r ≡ weighed_trio v.ends ws xs z → z < 4 → r ≡ trio_at v xs z
 unfolding weighed_trio trio_at
 weighed_trio_lem a z e l = e ∙ rw (weighed_place a z l sys_a, weighed_place a z l sys_b, weighed_place a z l sys_c)

@@ -4,7 +4,7 @@ use Rattle.lists.specs.Lists.{up_to}
 use Rattle.setting.specs.declared.End.{End}
 use Rattle.setting.specs.declared.Setting.{Setting}
 use Rattle.setting.specs.Values.{end_of, factor}
-use Rattle.matching.specs.declared.Trio.{Trio}
+use Rattle.systems.specs.declared.Systems.{Systems}
 use Rattle.matching.specs.declared.Three.{Three}
 use Rattle.matching.specs.Matching.{three, matched}
 
@@ -51,7 +51,7 @@ matched_at v xs z l = matched (factor v z) (end_of v z).group (filtered (end_of 
 abbrev pub place_of : Setting → List ℤ → ℕ → System → ℤ
 place_of v xs z l = cond (ltb z v.ends) (matched_at v xs z l) (pos 0)
 
-unfoldable pub trio_at : Setting → List ℤ → ℕ → Trio
+unfoldable pub trio_at : Setting → List ℤ → ℕ → Systems ℤ
 trio_at v xs z = record { a = place_of v xs z sys_a; b = place_of v xs z sys_b; c = place_of v xs z sys_c }
 
 -- ---- the twelve matched numbers of a set: end z and system y at place 3z + y

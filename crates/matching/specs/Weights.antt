@@ -6,7 +6,7 @@ use Rattle.lists.specs.Lists.{up_to}
 use Rattle.setting.specs.declared.Setting.{Setting}
 use Rattle.setting.specs.Values.{end_of}
 use Rattle.setting.specs.Limits.{factor_or0}
-use Rattle.matching.specs.declared.Trio.{Trio}
+use Rattle.systems.specs.declared.Systems.{Systems}
 use Rattle.matching.specs.declared.Three.{Three}
 use Rattle.matching.specs.Matching.{three, Quotient, even, operated}
 use Rattle.matching.specs.Sets.{System, sys_a, sys_b, sys_c, seen, phases, filtered}
@@ -50,5 +50,5 @@ weighed w x = nearest_away (w.p *ℤ x.p +ℤ w.n *ℤ x.n +ℤ w.q *ℤ x.q) (6
 abbrev pub weighed_at : (ends : ℕ) (ws xs : List ℤ) → ℕ → System → ℤ
 weighed_at ends ws xs z l = cond (ltb z ends) (weighed (phases ws z) (seen l (phases xs z))) (pos 0)
 
-unfoldable pub weighed_trio : (ends : ℕ) (ws xs : List ℤ) → ℕ → Trio
+unfoldable pub weighed_trio : (ends : ℕ) (ws xs : List ℤ) → ℕ → Systems ℤ
 weighed_trio ends ws xs z = record { a = weighed_at ends ws xs z sys_a; b = weighed_at ends ws xs z sys_b; c = weighed_at ends ws xs z sys_c }

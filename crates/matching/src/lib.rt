@@ -11,14 +11,10 @@ ghost use Rattle.matching.specs.Bank.{TotalBound, MatchedBound};
 ghost use Rattle.matching.specs.Neutral.{Widened, NeutralBefore};
 
 use setting::Setting;
+use systems::Systems;
 
 // The matched numbers of an end for systems 1, 2 and 3.
-#[derive(Clone, Copy)]
-pub struct Trio {
-    pub a: i32,
-    pub b: i32,
-    pub c: i32,
-}
+pub type Trio = Systems<i32>;
 
 // Three numbers as a system sees them: p of its own phase, n of the next (A to B to C to A), q of the one before.
 #[derive(Clone, Copy)]

@@ -6,7 +6,7 @@ use Rattle.amplitude.specs.Amplitude.{amplitude}
 use Rattle.characteristic.specs.declared.Currents.{Currents}
 use Rattle.characteristic.specs.Characteristic.{starts, has_harmonics, holds_back, common_on}
 use Rattle.measuring.specs.declared.Reading.{Reading}
-use Rattle.measuring.specs.declared.Readings.{Readings}
+use Rattle.systems.specs.declared.Systems.{Systems}
 use Rattle.measuring.specs.Window.{series, sums, difference}
 
 -- D, H2 and H5 are the amplitudes for h = 1, 2, 5 of the sum of the matched numbers over the ends in use (§ Amplitudes 6).
@@ -60,10 +60,10 @@ reading_of v win l =
       blocked = blocked v win l;
     }
 
-unfoldable pub readings_of : Setting → List ℤ → Readings
+unfoldable pub readings_of : Setting → List ℤ → Systems Reading
 readings_of v win = record { a = reading_of v win sys_a; b = reading_of v win sys_b; c = reading_of v win sys_c }
 
 -- from its currents: the readings of any window that has them
-abbrev pub ReadingsBy : Setting → (a b c : Currents) → Readings → Type 0
+abbrev pub ReadingsBy : Setting → (a b c : Currents) → Systems Reading → Type 0
 ReadingsBy v a b c r =
     (win : List ℤ) → a ≡ currents_of v.ends win sys_a → b ≡ currents_of v.ends win sys_b → c ≡ currents_of v.ends win sys_c → r ≡ readings_of v win

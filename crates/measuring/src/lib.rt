@@ -15,6 +15,7 @@ ghost use Rattle.measuring.specs.WindowInput.{WindowInput, Ends, Measurable, Sys
 
 use characteristic::{Currents, Held};
 use setting::Setting;
+use systems::Systems;
 
 // What is measured of a system: its currents, in thousandths of reference current, with r twice the restraint; start, blocked.
 #[derive(Clone, Copy)]
@@ -28,12 +29,7 @@ pub struct Reading {
 }
 
 // Those of systems 1, 2 and 3.
-#[derive(Clone, Copy)]
-pub struct Readings {
-    pub a: Reading,
-    pub b: Reading,
-    pub c: Reading,
-}
+pub type Readings = Systems<Reading>;
 
 // What is measured of the three systems, and the h = 1 amplitudes of the ends where they are asked for: number 3 z + y is of end z and system y.
 #[derive(Clone, Copy)]

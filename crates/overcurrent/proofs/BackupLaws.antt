@@ -1,40 +1,33 @@
 -- Laws of the four ends' sums and trips at a measured set: that sums stay within, and what becomes of each end.
 use mathlib.Core.Path.{◌≡◌, refl, sym, subst}
 use mathlib.Core.Bool.{Bool, true, false, not, ◌&&◌, cond, and-false}
-use mathlib.Core.List.{List}
 use Prim.Native.Nat.{ℕ, zero, suc, ◌≤◌, ◌<◌}
-use native.Mathlib.Nat.{max-le}
 use native.Mathlib.Omega.{arith}
 use lib.Dec.{T, ltb, leb, eqb, leb→le, le→leb}
 use borrow.Author.Tests.{ltb-true, ne_eqb}
 use Rattle.lists.specs.Tests.{hold, none, ◌&◌}
 use Rattle.lists.proofs.TestLaws.{hold_at, hold_of, is_true}
-use Rattle.overcurrent.specs.declared.Backup.{Backup}
+use Rattle.systems.specs.declared.Ends.{Ends}
 use Rattle.inverse_time.specs.declared.Timer.{Timer}
 use Rattle.inverse_time.specs.Curves.{curve_of}
-use Rattle.inverse_time.specs.Timers.{multiple, most_sum, timer_after, idle, TimerInput}
+use Rattle.inverse_time.specs.Timers.{multiple, most_sum, timer_after, idle}
 use Rattle.inverse_time.proofs.TimerLaws.{sum_stays_within}
-use Rattle.overcurrent.specs.Ends.{timer_of, per_end, timed, backup_after, sums_within, largest_in, BackupInput}
+use Rattle.overcurrent.specs.Ends.{timer_of, per_end, timed, backup_after, sums_within}
 
 -- ---- the four ends, by themselves and after a measured set
 
 -- no sum above the most
-pub sum_within_lem : (b : Backup) → T (hold (sums_within b)) → (z : ℕ) → (timer_of b z).sum ≤ most_sum
+pub sum_within_lem : (b : Ends Timer) → T (hold (sums_within b)) → (z : ℕ) → (timer_of b z).sum ≤ most_sum
 sum_within_lem b h zero = leb→le _ _ (hold_at (sums_within b) h 0)
 sum_within_lem b h (suc zero) = leb→le _ _ (hold_at (sums_within b) h 1)
 sum_within_lem b h (suc (suc zero)) = leb→le _ _ (hold_at (sums_within b) h 2)
 sum_within_lem b h (suc (suc (suc zero))) = leb→le _ _ (hold_at (sums_within b) h 3)
 sum_within_lem b h (suc (suc (suc (suc z)))) = omega arith
 
--- what an end takes, with A worked out
-pub input_of : {curve X : ℕ} {a : List ℕ} {b : Backup} → BackupInput curve X a b → (z : ℕ) {A : ℕ} → A ≡ largest_in a z → TimerInput X A (timer_of b z)
-input_of {b = b} p z e =
-    record { pickup = p.pickup; small = rw e (max-le (p.small _) (max-le (p.small _) (p.small _))); sum = sum_within_lem b p.sums z }
-
 pub within_idle : hold (sums_within (per_end (λ z. idle))) ≡ true
 within_idle = refl
 
-module _ (E curve X : ℕ) (A : ℕ → ℕ) (b : Backup) where
+module _ (E curve X : ℕ) (A : ℕ → ℕ) (b : Ends Timer) where
   -- what becomes of an end
   abbrev pub after : ℕ → Timer
   after z = cond (timed E curve z) (timer_after (curve_of curve) (multiple X (A z)) (timer_of b z)) (timer_of b z)
@@ -76,7 +69,7 @@ module _ (E curve X : ℕ) (A : ℕ → ℕ) (b : Backup) where
           (by (timed E curve z) _ (timer_of b z) (sum_stays_within (curve_of curve) (multiple X (A z)) (timer_of b z)) (sum_within_lem b (subst T (sym h) tt) z))
 
 -- only the amplitudes of the first E ends are looked at
-pub after_same : (E curve X : ℕ) (A A' : ℕ → ℕ) (b : Backup) → ((z : ℕ) → z < E → A z ≡ A' z) → backup_after E curve X A b ≡ backup_after E curve X A' b
+pub after_same : (E curve X : ℕ) (A A' : ℕ → ℕ) (b : Ends Timer) → ((z : ℕ) → z < E → A z ≡ A' z) → backup_after E curve X A b ≡ backup_after E curve X A' b
 unfolding backup_after
 after_same E curve X A A' b same = cc (end 0, end 1, end 2, end 3)
   where

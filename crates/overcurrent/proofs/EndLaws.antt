@@ -5,7 +5,8 @@ use Prim.Native.Nat.{ℕ, zero, suc, ◌≤◌, ◌<◌}
 use native.Mathlib.Omega.{arith}
 use lib.Dec.{T, ltb, eqb}
 use borrow.Author.Tests.{le-ltb, ltb-true, ltb-false}
-use Rattle.overcurrent.specs.declared.Backup.{Backup}
+use Rattle.inverse_time.specs.declared.Timer.{Timer}
+use Rattle.systems.specs.declared.Ends.{Ends}
 use Rattle.inverse_time.specs.Curves.{curve_of}
 use Rattle.inverse_time.specs.Timers.{multiple, timer_after, idle}
 use Rattle.overcurrent.specs.Ends.{timer_of, per_end, timed, backup_after}
@@ -20,14 +21,14 @@ timer_idle (suc (suc (suc zero))) = refl
 timer_idle (suc (suc (suc (suc z)))) = refl
 
 -- there is no end past the fourth
-none_past : (b : Backup) (z : ℕ) → 4 ≤ z → timer_of b z ≡ idle
+none_past : (b : Ends Timer) (z : ℕ) → 4 ≤ z → timer_of b z ≡ idle
 none_past b (suc (suc (suc (suc z)))) l = refl
 none_past b zero l = absurd (omega arith)
 none_past b (suc zero) l = absurd (omega arith)
 none_past b (suc (suc zero)) l = absurd (omega arith)
 none_past b (suc (suc (suc zero))) l = absurd (omega arith)
 
-module _ (E curve X : ℕ) (A : ℕ → ℕ) (b : Backup) where
+module _ (E curve X : ℕ) (A : ℕ → ℕ) (b : Ends Timer) where
   -- what a measured set makes of any end
   pub timer_at_lem : E ≤ 4 → (z : ℕ) → timer_of (backup_after E curve X A b) z ≡ after E curve X A b z
   timer_at_lem four z = by (ltb z 4) refl

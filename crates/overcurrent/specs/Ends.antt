@@ -4,14 +4,13 @@ use Rattle.lists.specs.Tests.{hold}
 use Rattle.inverse_time.specs.declared.Timer.{Timer}
 use Rattle.inverse_time.specs.Curves.{curve_of}
 use Rattle.inverse_time.specs.Timers.{multiple, most_sum, timer_after, idle}
-use Rattle.overcurrent.specs.declared.Backup.{Backup}
-use Rattle.overcurrent.specs.declared.Trips.{Trips}
+use Rattle.systems.specs.declared.Ends.{Ends}
 
-abbrev pub timer_of : Backup → ℕ → Timer
+abbrev pub timer_of : Ends Timer → ℕ → Timer
 timer_of b z = get_or (b.e0 ∷ b.e1 ∷ b.e2 ∷ b.e3 ∷ []) z idle
 
 -- something of each end
-abbrev pub per_end : (ℕ → Timer) → Backup
+abbrev pub per_end : (ℕ → Timer) → Ends Timer
 per_end f = record { e0 = f 0; e1 = f 1; e2 = f 2; e3 = f 3 }
 
 -- an end has its element in use: the curve is not 0, and the end is one of E
@@ -20,11 +19,11 @@ timed E curve z = not (eqb curve 0) && ltb z E
 
 -- what a measured set makes of them, A being the largest amplitude of each end: at curve 0 none moves, and at ends that are not in use only a reset
 -- changes sum or trip (§ Backup overcurrent 6)
-unfoldable pub backup_after : (ends curve X : ℕ) (A : ℕ → ℕ) → Backup → Backup
+unfoldable pub backup_after : (ends curve X : ℕ) (A : ℕ → ℕ) → Ends Timer → Ends Timer
 backup_after E curve X A b =
     per_end (λ z. cond (timed E curve z) (timer_after (curve_of curve) (multiple X (A z)) (timer_of b z)) (timer_of b z))
 
-abbrev pub trips_of : Backup → Trips
+abbrev pub trips_of : Ends Timer → Ends Bool
 trips_of b = record { e0 = b.e0.trip; e1 = b.e1.trip; e2 = b.e2.trip; e3 = b.e3.trip }
 
 -- ---- refusal 12, in part: no larger sum
@@ -32,7 +31,7 @@ trips_of b = record { e0 = b.e0.trip; e1 = b.e1.trip; e2 = b.e2.trip; e3 = b.e3.
 abbrev pub sum_within : Timer → Bool
 sum_within t = leb t.sum most_sum
 
-abbrev pub sums_within : Backup → List Bool
+abbrev pub sums_within : Ends Timer → List Bool
 sums_within b = sum_within b.e0 ∷ sum_within b.e1 ∷ sum_within b.e2 ∷ sum_within b.e3 ∷ []
 
 -- ---- what the code takes
@@ -41,7 +40,7 @@ sums_within b = sum_within b.e0 ∷ sum_within b.e1 ∷ sum_within b.e2 ∷ sum_
 abbrev pub largest_in : List ℕ → (z : ℕ) → ℕ
 largest_in a z = max (get_or a (3 * z) 0) (max (get_or a (3 * z + 1) 0) (get_or a (3 * z + 2) 0))
 
-pub record BackupInput (curve X : ℕ) (a : List ℕ) (b : Backup) : Type 0 where
+pub record BackupInput (curve X : ℕ) (a : List ℕ) (b : Ends Timer) : Type 0 where
   pub on : 1 ≤ curve
   pub pickup : 1 ≤ X
   pub small : (i : ℕ) → get_or a i 0 ≤ 32000000

@@ -8,7 +8,8 @@ use Rattle.amplitude.specs.Amplitude.{amplitude}
 use Rattle.measuring.specs.Window.{series}
 use Rattle.measuring.specs.Measuring.{readings_of}
 use Rattle.measuring.specs.WindowInput.{Measurable}
-use Rattle.overcurrent.specs.declared.Backup.{Backup}
+use Rattle.inverse_time.specs.declared.Timer.{Timer}
+use Rattle.systems.specs.declared.Ends.{Ends}
 use Rattle.overcurrent.specs.declared.Watched.{Watched}
 use Rattle.overcurrent.specs.Ends.{backup_after, sums_within}
 
@@ -16,15 +17,15 @@ use Rattle.overcurrent.specs.Ends.{backup_after, sums_within}
 unfoldable pub largest : List ℤ → (z : ℕ) → ℕ
 largest win z = max (amplitude 1 (series win z sys_a)) (max (amplitude 1 (series win z sys_b)) (amplitude 1 (series win z sys_c)))
 
-unfoldable pub backup_by : Setting → List ℤ → Backup → Backup
+unfoldable pub backup_by : Setting → List ℤ → Ends Timer → Ends Timer
 backup_by v win b = backup_after v.ends v.overcurrent.curve v.overcurrent.pickup (largest win) b
 
 -- what is measured, and sums and trips after it
-pub record Watches (v : Setting) (win : List ℤ) (b : Backup) (r : Watched) : Type 0 where
+pub record Watches (v : Setting) (win : List ℤ) (b : Ends Timer) (r : Watched) : Type 0 where
   pub readings : r.readings ≡ readings_of v win
   pub backup : r.backup ≡ backup_by v win b
 
-pub record WatchInput (v : Setting) (win : List ℤ) (b : Backup) : Type 0 where
+pub record WatchInput (v : Setting) (win : List ℤ) (b : Ends Timer) : Type 0 where
   pub measurable : Measurable v win
   pub on : eqb v.overcurrent.curve 0 ≡ false → TimersOn v.overcurrent
   pub sums : T (hold (sums_within b))

@@ -11,17 +11,17 @@ pub fn measured(v: Setting, win: &[i32], b: Backup) -> Watched
     ensures { Watches v win.now b result }
 {
     let o = v.overcurrent;
-    let m = measuring::measure_ends(v, win, o.curve != 0);
+    let on = o.curve != 0;
+    let m = measuring::measure_ends(v, win, on);
     let readings = m.readings;
-    if o.curve == 0 {
+    if !on {
         return Watched {
-            readings: readings,
+            readings,
             backup: b,
         };
     }
-    let amplitudes = m.amplitudes;
     Watched {
-        readings: readings,
-        backup: crate::backup_after(v.ends, o.curve, o.pickup, amplitudes, b),
+        readings,
+        backup: crate::backup_after(v.ends, o.curve, o.pickup, m.amplitudes, b),
     }
 }

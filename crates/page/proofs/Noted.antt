@@ -5,8 +5,9 @@ use lib.Dec.{T}
 use Rattle.lists.specs.Tests.{hold}
 use Rattle.bits.specs.declared.Bits.{Bits}
 use Rattle.bits.specs.Bits.{some}
-use Rattle.measuring.specs.declared.Readings.{Readings}
-use Rattle.state.specs.declared.Trip.{Trip}
+use Rattle.measuring.specs.declared.Reading.{Reading}
+use Rattle.state.specs.declared.Element.{Element}
+use Rattle.systems.specs.declared.Systems.{Systems}
 use Rattle.state.specs.State.{latches_of}
 use Rattle.page.specs.declared.Events.{Events}
 use Rattle.page.specs.Events.{within, new, new_flags, raised}
@@ -25,7 +26,7 @@ neither true b e = absurd (true≢false (sym e))
 neither false true e = absurd (true≢false (sym e))
 neither false false e = (refl, refl)
 
-pub nothing_raised : (e : Events) → T (hold (within e)) → (before : Bits) (m : Readings) (t u : Trip) → nothing_new m t u ≡ true →
+pub nothing_raised : (e : Events) → T (hold (within e)) → (before : Bits) (m : Systems Reading) (t u : Systems Element) → nothing_new m t u ≡ true →
     e ≡ raised (new_flags before (starts_of m) (latches_of t) (latches_of u)) e
 nothing_raised e h before m t u q =
     let (starts, trips) = neither (some (starts_of m)) (new (latches_of t) (latches_of u)) q in

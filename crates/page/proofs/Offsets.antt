@@ -13,8 +13,9 @@ use Rattle.lists.specs.Tests.{none, ◌&◌}
 use Rattle.lists.proofs.Places.{flat_at}
 use Rattle.bits.specs.Bits.{mask_of}
 use Rattle.block.specs.Bytes.{bytes32}
-use Rattle.measuring.specs.declared.Readings.{Readings}
-use Rattle.state.specs.declared.Trip.{Trip}
+use Rattle.measuring.specs.declared.Reading.{Reading}
+use Rattle.state.specs.declared.Element.{Element}
+use Rattle.systems.specs.declared.Systems.{Systems}
 use Rattle.state.specs.State.{latches_of}
 use Rattle.page.specs.declared.Events.{Events}
 use Rattle.page.specs.Events.{interrupt}
@@ -38,7 +39,7 @@ among_zeros zero k = refl
 among_zeros (suc n) zero = refl
 among_zeros (suc n) (suc k) = among_zeros n k
 
-module _ (t : Trip) (m : Readings) (e : Events) where
+module _ (t : Systems Element) (m : Systems Reading) (e : Events) where
   abbrev head : List ℕ
   head = mask_of (latches_of t) ∷ mask_of (starts_of m) ∷ mask_of (blocks_of m) ∷ e.flags ∷ e.mask ∷ interrupt e ∷ 0 ∷ 0 ∷ []
 
@@ -78,11 +79,11 @@ apart a x y x' y' zs (suc (suc zero)) h = absurd (true≢false h)
 apart a x y x' y' zs (suc (suc (suc k))) h = refl
 
 -- bytes that show nothing measured
-pub unmeasured : (t : Trip) (m n : Readings) (e : Events) (at : ℕ) → measured_at at ≡ false → get_or (page t m e) at 0 ≡ get_or (page t n e) at 0
+pub unmeasured : (t : Systems Element) (m n : Systems Reading) (e : Events) (at : ℕ) → measured_at at ≡ false → get_or (page t m e) at 0 ≡ get_or (page t n e) at 0
 unfolding page
 unmeasured t m n e at h = by (ltb at 8) refl
   where
-    front : (k : Readings) → at < 8 → get_or (page t k e) at 0 ≡ get_or (head t k e) at 0
+    front : (k : Systems Reading) → at < 8 → get_or (page t k e) at 0 ≡ get_or (head t k e) at 0
     front k l = get_or-append (head t k e) (flatten (words t k e) ++ replicate 32 0) 0 at l
 
     by : (b : Bool) → ltb at 8 ≡ b → get_or (page t m e) at 0 ≡ get_or (page t n e) at 0

@@ -4,8 +4,9 @@ use Rattle.lists.specs.Tests.{hold, each}
 use Rattle.bits.specs.Bits.{some}
 use Rattle.setting.specs.declared.Setting.{Setting}
 use Rattle.setting.specs.Values.{startable}
-use Rattle.measuring.specs.declared.Readings.{Readings}
-use Rattle.state.specs.declared.Trip.{Trip}
+use Rattle.measuring.specs.declared.Reading.{Reading}
+use Rattle.state.specs.declared.Element.{Element}
+use Rattle.systems.specs.declared.Systems.{Systems}
 use Rattle.state.specs.declared.Window.{Window}
 use Rattle.state.specs.State.{number_within, latches_of}
 use Rattle.page.specs.declared.Events.{Events}
@@ -24,5 +25,5 @@ pub record HeldWith (v : Setting) (w : Window) (e : Events) : Type 0 where
   pub events : T (hold (within e))
 
 -- no flag is raised, whatever started before: no system starts, and no latch is new
-abbrev pub nothing_new : Readings → (before after : Trip) → Bool
+abbrev pub nothing_new : Systems Reading → (before after : Systems Element) → Bool
 nothing_new m before after = not (some (starts_of m) || new (latches_of before) (latches_of after))

@@ -4,14 +4,13 @@ use mathlib.Core.List.{List, [], ◌∷◌, map, flatten}
 use Rattle.bits.specs.declared.Bits.{Bits}
 use Rattle.bits.specs.Bits.{bits_of, mask_of}
 use Rattle.measuring.specs.declared.Reading.{Reading}
-use Rattle.measuring.specs.declared.Readings.{Readings}
+use Rattle.systems.specs.declared.Systems.{Systems}
 use Rattle.state.specs.declared.Element.{Element}
-use Rattle.state.specs.declared.Trip.{Trip}
 use Rattle.page.specs.declared.Events.{Events}
 use Rattle.page.specs.Events.{new, new_flags, refused_set, raised, lowered, masked, written, interrupt}
 use Rattle.page.specs.Page.{page}
 
-pub page_long : (t : Trip) (m : Readings) (e : Events) → length (page t m e) ≡ 64
+pub page_long : (t : Systems Element) (m : Systems Reading) (e : Events) → length (page t m e) ≡ 64
 unfolding page flatten
 page_long t m e = refl
 
@@ -23,10 +22,10 @@ latched b = record { count = 0; latch = b }
 abbrev pub reading : (d r : ℕ) (start blocked : Bool) → Reading
 reading d r s b = record { d = d; r = r; h2 = 9; h5 = 9; start = s; blocked = b }
 
-abbrev pub trip : Trip
+abbrev pub trip : Systems Element
 trip = record { a = latched true; b = latched false; c = latched true }
 
-abbrev pub measured : Readings
+abbrev pub measured : Systems Reading
 measured = record { a = reading 1000 70000 true false; b = reading 0 255 true true; c = reading 65536 16909060 false false }
 
 pub page_met :

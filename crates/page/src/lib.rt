@@ -85,21 +85,13 @@ fn interrupt(e: Events) -> u8
 fn starts(m: Readings) -> Bits
     ensures { result ≡ starts_of m }
 {
-    Bits {
-        b0: m.a.start,
-        b1: m.b.start,
-        b2: m.c.start,
-    }
+    Bits::from(m.map(|r| r.start))
 }
 
 fn blocks(m: Readings) -> Bits
     ensures { result ≡ blocks_of m }
 {
-    Bits {
-        b0: m.a.blocked,
-        b1: m.b.blocked,
-        b2: m.c.blocked,
-    }
+    Bits::from(m.map(|r| r.blocked))
 }
 
 // D1, R1, D2, R2, D3, R3 in turn, with R twice the restraint.
@@ -156,17 +148,12 @@ fn shows_measured(at: usize) -> bool
 fn nothing() -> Readings
     ensures { result ≡ nothing_shown }
 {
-    let zero = Reading {
+    Readings::same(Reading {
         d: 0,
         r: 0,
         h2: 0,
         h5: 0,
         start: false,
         blocked: false,
-    };
-    Readings {
-        a: zero,
-        b: zero,
-        c: zero,
-    }
+    })
 }

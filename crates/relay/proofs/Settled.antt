@@ -4,15 +4,16 @@ use mathlib.Core.Bool.{true, false}
 use Prim.Native.Nat.{ℕ}
 use Rattle.bits.specs.declared.Bits.{Bits}
 use Rattle.refusal.specs.Refusals.{Outcome, gives}
-use Rattle.measuring.specs.declared.Readings.{Readings}
+use Rattle.measuring.specs.declared.Reading.{Reading}
+use Rattle.inverse_time.specs.declared.Timer.{Timer}
+use Rattle.systems.specs.declared.Systems.{Systems}
 use Rattle.measuring.specs.Measuring.{reading_of, readings_of}
 use Rattle.state.specs.declared.Element.{Element}
-use Rattle.state.specs.declared.Trip.{Trip}
 use Rattle.state.specs.declared.Window.{Window}
 use Rattle.relay.specs.declared.Relay.{Relay}
 use Rattle.state.specs.State.{element_after, latches_of, full}
 use Rattle.state.proofs.Elements.{latch_kept}
-use Rattle.overcurrent.specs.declared.Backup.{Backup}
+use Rattle.systems.specs.declared.Ends.{Ends}
 use Rattle.overcurrent.specs.Ends.{trips_of}
 use Rattle.overcurrent.specs.Watching.{backup_by}
 use Rattle.page.specs.declared.Events.{Events}
@@ -52,12 +53,12 @@ module _ (r : Relay) (w : Window) where
   unfolding relay_now backup_now
   filling_relay e adm p q s = rw (filling_events e adm, p, q, s, e)
 
-  module _ (full-now : full w ≡ true) {m : Readings} (e : m ≡ readings_of r.setting w.values) {t : Trip} (p : t ≡ trip_after r.setting m r.trip) where
+  module _ (full-now : full w ≡ true) {m : Systems Reading} (e : m ≡ readings_of r.setting w.values) {t : Systems Element} (p : t ≡ trip_after r.setting m r.trip) where
     pub measured_trip : t ≡ trip_now r w
     unfolding readings_of reading_of
     measured_trip = rw (p, e, full-now)
 
-    module _ {b : Backup} (after : b ≡ backup_by r.setting w.values r.backup) where
+    module _ {b : Ends Timer} (after : b ≡ backup_by r.setting w.values r.backup) where
       pub measured_reply :
           ◌≡◌ {A = Outcome Answer}
           (gives

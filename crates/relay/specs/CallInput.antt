@@ -3,10 +3,9 @@ use Rattle.std.specs.Prelude.{◌≡◌, true, false}
 use Rattle.setting.specs.declared.Setting.{Setting}
 use Rattle.characteristic.specs.Characteristic.{counts}
 use Rattle.measuring.specs.declared.Reading.{Reading}
-use Rattle.measuring.specs.declared.Readings.{Readings}
+use Rattle.systems.specs.declared.Systems.{Systems}
 use Rattle.measuring.specs.WindowInput.{Measurable}
 use Rattle.state.specs.declared.Element.{Element}
-use Rattle.state.specs.declared.Trip.{Trip}
 use Rattle.state.specs.declared.Window.{Window}
 use Rattle.state.specs.State.{element_after, full}
 use Rattle.relay.specs.declared.Relay.{Relay}
@@ -30,5 +29,5 @@ pub record FillingNow (r : Relay) (w : Window) : Type 0 where
 abbrev pub element_by : Setting → Reading → Element → Element
 element_by v m e = element_after v.confirm (counts v m.d m.start m.blocked) e
 
-abbrev pub trip_after : Setting → Readings → Trip → Trip
+abbrev pub trip_after : Setting → Systems Reading → Systems Element → Systems Element
 trip_after v m t = record { a = element_by v m.a t.a; b = element_by v m.b t.b; c = element_by v m.c t.c }

@@ -9,7 +9,8 @@ pub use Rattle.setting.specs.Worked.{blank}
 use Rattle.matching.specs.Sets.{System, sys_a, sys_b, sys_c, numbers}
 use Rattle.bits.specs.declared.Bits.{Bits}
 use Rattle.state.specs.declared.Element.{Element}
-use Rattle.state.specs.declared.Trip.{Trip}
+use Rattle.inverse_time.specs.declared.Timer.{Timer}
+use Rattle.systems.specs.declared.Systems.{Systems}
 use Rattle.state.specs.declared.Window.{Window}
 use Rattle.relay.specs.declared.Relay.{Relay}
 use Rattle.relay.specs.declared.Measure.{Measure}
@@ -20,7 +21,7 @@ use Rattle.relay.specs.declared.Returned.{Returned}
 use Rattle.characteristic.specs.Characteristic.{counts}
 use Rattle.measuring.specs.Measuring.{differential, start, blocked, reading_of}
 use Rattle.state.specs.State.{element_of, per_system, element_after, clear, latches_of, window_with, full}
-use Rattle.overcurrent.specs.declared.Backup.{Backup}
+use Rattle.systems.specs.declared.Ends.{Ends}
 use Rattle.inverse_time.specs.Timers.{idle}
 use Rattle.overcurrent.specs.Ends.{per_end, trips_of}
 use Rattle.overcurrent.specs.Watching.{backup_by}
@@ -68,7 +69,7 @@ counting v w l = full w && counts v (differential v w.values l) (start v w.value
 abbrev pub element_now : Relay → Window → System → Element
 element_now r w l = element_after r.setting.confirm (counting r.setting w l) (element_of r.trip l)
 
-abbrev pub trip_now : Relay → Window → Trip
+abbrev pub trip_now : Relay → Window → Systems Element
 trip_now r w = per_system (element_now r w)
 
 -- D, R (twice the restraint), H2, H5, start, blocked and latched of a system
@@ -76,7 +77,7 @@ abbrev pub measure_now : Relay → Window → System → Measure
 measure_now r w l = record { reading = reading_of r.setting w.values l; latched = (element_now r w l).latch }
 
 -- sums and trips of the overcurrent elements: while the window fills they stay (§ Backup overcurrent 6)
-unfoldable pub backup_now : Relay → Window → Backup
+unfoldable pub backup_now : Relay → Window → Ends Timer
 backup_now r w = cond (full w) (backup_by r.setting w.values r.backup) r.backup
 
 -- An accepted set answers Filling with the number held, or Measured (§ The relay record 4), which carries these trips apart from the latches.

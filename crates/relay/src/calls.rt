@@ -27,11 +27,7 @@ fn element_now(v: Setting, m: Reading, e: Element) -> Element
 pub fn trip_after(v: Setting, m: Readings, t: Trip) -> Trip
     ensures { result ≡ trip_after v m t }
 {
-    Trip {
-        a: element_now(v, m.a, t.a),
-        b: element_now(v, m.b, t.b),
-        c: element_now(v, m.c, t.c),
-    }
+    m.map_with(t, |m, e| element_now(v, m, e))
 }
 
 // A set filed in a window that is not full yet: the number held, counters cleared; overcurrent sums stay.
@@ -40,11 +36,7 @@ fn filling(r: Relay, w: Window) -> Sampled
     ensures { Gives (gives (reply_now r w)) (relay_now r w) result }
 {
     let confirm = r.setting.confirm;
-    let trip = Trip {
-        a: state::element_after(confirm, false, r.trip.a),
-        b: state::element_after(confirm, false, r.trip.b),
-        c: state::element_after(confirm, false, r.trip.c),
-    };
+    let trip = r.trip.map(|e| state::element_after(confirm, false, e));
     Sampled {
         answer: Ok(Answer::Filling(w.fill)),
         relay: Relay {

@@ -63,15 +63,10 @@ pub fn started_on(v: Setting, verdict: Result<(), Refusal>) -> Setting
 pub fn untripped() -> Trip
     ensures { result ≡ per_system (λ l. clear) }
 {
-    let clear = Element {
+    Trip::same(Element {
         count: 0,
         latch: false,
-    };
-    Trip {
-        a: clear,
-        b: clear,
-        c: clear,
-    }
+    })
 }
 
 // A fresh relay of setting values.

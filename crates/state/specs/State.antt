@@ -4,18 +4,18 @@ use Rattle.bits.specs.declared.Bits.{Bits}
 use Rattle.bits.specs.Bits.{mask_of}
 use Rattle.matching.specs.Sets.{System, sys_a, sys_b, sys_c}
 use Rattle.state.specs.declared.Element.{Element}
-use Rattle.state.specs.declared.Trip.{Trip}
+use Rattle.systems.specs.declared.Systems.{Systems}
 use Rattle.state.specs.declared.Window.{Window}
 
 -- ---- the counter and the latch of a system
 
-abbrev pub element_of : Trip → System → Element
+abbrev pub element_of : Systems Element → System → Element
 element_of t sys_a = t.a
 element_of t sys_b = t.b
 element_of t sys_c = t.c
 
 -- something of each system
-abbrev pub per_system : (System → Element) → Trip
+abbrev pub per_system : (System → Element) → Systems Element
 per_system f = record { a = f sys_a; b = f sys_b; c = f sys_c }
 
 -- at a counting set the counter grows by one, at most to M; a set that does not count clears it
@@ -31,10 +31,10 @@ abbrev pub clear : Element
 clear = record { count = 0; latch = false }
 
 -- the latches of systems 1, 2, 3; and the sum of 1, 2, 4 for those latched
-abbrev pub latches_of : Trip → Bits
+abbrev pub latches_of : Systems Element → Bits
 latches_of t = record { b0 = t.a.latch; b1 = t.b.latch; b2 = t.c.latch }
 
-abbrev pub latch_sum : Trip → ℕ
+abbrev pub latch_sum : Systems Element → ℕ
 latch_sum t = mask_of (latches_of t)
 
 -- ---- refusal 12, in part
@@ -44,7 +44,7 @@ abbrev pub number_within : ℤ → Bool
 number_within x = leb (nat_abs x) 800000
 
 -- no counter above M
-abbrev pub counters_within : (M : ℕ) → Trip → List Bool
+abbrev pub counters_within : (M : ℕ) → Systems Element → List Bool
 counters_within M t = leb t.a.count M ∷ leb t.b.count M ∷ leb t.c.count M ∷ []
 
 -- ---- the window, and what a set makes of it

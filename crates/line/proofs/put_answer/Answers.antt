@@ -1,7 +1,8 @@
 -- `line::put_answer` meets its contract, by whether the answer is Measured: F or M, and then the three D.
 use mathlib.Core.Path.{◌≡◌, refl}
 use native.Mathlib.Omega.{arith}
-use Rattle.overcurrent.specs.declared.Trips.{Trips}
+use mathlib.Core.Bool.{Bool}
+use Rattle.systems.specs.declared.Ends.{Ends}
 use Rattle.relay.specs.declared.Measure.{Measure}
 use Rattle.relay.specs.declared.Answer.{Answer}
 use Rattle.relay.specs.declared.Answer.TheVariants.{Filling, Measured, Refused}
@@ -14,7 +15,7 @@ use Rattle.line.proofs.Few.{few_of, few_then}
 use Rattle.line.proofs.put_answer.Goals as goal
 
 -- no answer but Measured has other columns than while the window fills
-unmeasured : (a : Answer) → ((x y z : Measure) (t : Trips) → a ≡ Measured x y z t → ⊥) → columns_of a ≡ columns (filling 0)
+unmeasured : (a : Answer) → ((x y z : Measure) (t : Ends Bool) → a ≡ Measured x y z t → ⊥) → columns_of a ≡ columns (filling 0)
 unmeasured (Filling n) h = refl
 unmeasured (Refused r) h = refl
 unmeasured (Measured x y z t) h = absurd (h x y z t refl)

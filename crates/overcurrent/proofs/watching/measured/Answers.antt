@@ -1,6 +1,5 @@
 -- `overcurrent::watching::measured` meets its contract: at curve 0 nothing moves; else the amplitudes of the ends in use are those of the window, and no
 -- others are looked at.
-use borrow.Author.Rules.{rules}
 use borrow.Author.Tests.{eq-eqb, ne_eqb}
 use mathlib.Core.Path.{◌≡◌, sym, ◌∙◌, subst}
 use mathlib.Core.Bool.{Bool, not}
@@ -22,16 +21,12 @@ use Rattle.overcurrent.specs.Watching.{largest, backup_by}
 use Rattle.overcurrent.proofs.BackupLaws.{after_off, after_same}
 use Rattle.overcurrent.proofs.watching.measured.Goals as goal
 
-pub measure_ends-m-requires : goal.measure_ends-m-requires
-measure_ends-m-requires c = search rules
-
 -- ---- the curve is 0
 
-pub returns-then-o-eq0 : goal.returns-then-o-eq0
+pub returns-then-not-on : goal.returns-then-not-on
 unfolding backup_by
-returns-then-o-eq0 c =
-    let m = c in
-    record { readings = m.measure_ends-m.ensures.readings; backup = sym (after_off _ _ _ _ _ (eq-eqb _ _ c.if-o-eq0.true)) }
+returns-then-not-on c =
+    record { readings = c.measure_ends-m.ensures.readings; backup = sym (after_off _ _ _ _ _ (eq-eqb _ _ c.if-not-on.true)) }
 
 -- ---- it is not
 
@@ -46,19 +41,15 @@ module _ {v : Setting} {win : List ℤ} {asked : Bool} {r : WithEnds} (m : Measu
 
 pub backup_after-requires : goal.backup_after-requires
 backup_after-requires c =
-    let m = c in
-    let start = m in
-    let on : TimersOn start.args.v.overcurrent = start.requires.on (ne_eqb _ _ c.if-o-eq0.false) in
-    record { on = on.some; pickup = omega (arith, on.pickup); small = m.measure_ends-m.ensures.small; sums = start.requires.sums }
+    let on : TimersOn c.args.v.overcurrent = c.requires.on (ne_eqb _ _ c.if-not-on.false) in
+    record { on = on.some; pickup = omega (arith, on.pickup); small = c.measure_ends-m.ensures.small; sums = c.requires.sums }
 
 pub returns : goal.returns
 unfolding backup_by
 returns c =
-    let other = c in
-    let m = other in
-    let curve = m.args.v.overcurrent.curve in
-    let asked : T (not (eqb curve 0)) = rw (ne_eqb curve 0 other.if-o-eq0.false) tt in
+    let curve = c.args.v.overcurrent.curve in
+    let asked : T (not (eqb curve 0)) = rw (ne_eqb curve 0 c.if-not-on.false) tt in
     record {
-      readings = m.measure_ends-m.ensures.readings;
-      backup = c.backup_after.ensures ∙ after_same _ _ _ _ _ _ (largest_at m.measure_ends-m.ensures asked);
+      readings = c.measure_ends-m.ensures.readings;
+      backup = c.backup_after.ensures ∙ after_same _ _ _ _ _ _ (largest_at c.measure_ends-m.ensures asked);
     }

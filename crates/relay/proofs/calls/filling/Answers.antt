@@ -4,9 +4,8 @@ use Rattle.relay.proofs.calls.filling.Goals as goal
 
 pub returns : goal.returns
 returns c =
-    let r = c.args.r in
-    let w = c.args.w in
+    let p = c.requires in
     record {
-      reply = filling_reply r w c.requires.unfilled;
-      relay = filling_relay r w c.requires.unfilled c.requires.admitted c.element_after.ensures c.element_after-2.ensures c.element_after-3.ensures;
+      reply = filling_reply c.args.r c.args.w p.unfilled;
+      relay = filling_relay c.args.r c.args.w p.unfilled p.admitted (search rules) (search rules) (search rules);
     }
