@@ -53,6 +53,6 @@ pub fn put_refused(buffer: &mut [u8], at: usize, r: Refusal) -> usize
     ensures { PutsFew 12 (refused (told_of r)) buffer.old at buffer.new result }
 {
     let a = text::put(buffer, at, b"refused");
-    let b = text::put_field(buffer, a, refusal::number(r) as u64);
+    let b = text::put_field(buffer, a, u8::from(r) as u64);
     text::put(buffer, b, b"\n")
 }
