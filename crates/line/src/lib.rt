@@ -4,7 +4,7 @@
 
 ghost use Rattle.std.specs.Prelude.{◌+◌, ◌≤◌, length};
 ghost use Rattle.refusal.specs.Refusals.{told_of};
-ghost use Rattle.line.specs.Line.{currents, refused, PutsFew, columns_of, line_of};
+ghost use Rattle.line.specs.Line.{currents, columns, line, refused, PutsFew};
 
 use refusal::Refusal;
 use relay::Answer;
@@ -24,16 +24,16 @@ fn put_currents<const N: usize>(text: &mut Text<N>, d1: u32, d2: u32, d3: u32)
 // F or M, and the three D; they are 0 while the window fills.
 fn put_answer<const N: usize>(text: &mut Text<N>, answer: Answer)
     requires { length text.old + 35 ≤ N }
-    ensures { PutsFew 35 (columns_of answer) text.old text.new }
+    ensures { PutsFew 35 (columns answer) text.old text.new }
 {
     match answer {
+        Answer::Filling(_) => {
+            text.put(b" F");
+            put_currents(text, 0, 0, 0);
+        }
         Answer::Measured(a, b, c, _) => {
             text.put(b" M");
             put_currents(text, a.reading.d, b.reading.d, c.reading.d);
-        }
-        _ => {
-            text.put(b" F");
-            put_currents(text, 0, 0, 0);
         }
     }
 }
@@ -41,7 +41,7 @@ fn put_answer<const N: usize>(text: &mut Text<N>, answer: Answer)
 // A set's line: its number, F or M, the three D, and the sum for the systems latched.
 pub fn put_line<const N: usize>(text: &mut Text<N>, number: u64, answer: Answer, trip: Trip)
     requires { length text.old + 67 ≤ N }
-    ensures { PutsFew 67 (line_of number answer trip) text.old text.new }
+    ensures { PutsFew 67 (line number answer trip) text.old text.new }
 {
     text.put_number(number);
     put_answer(text, answer);
@@ -54,7 +54,8 @@ pub fn put_refused<const N: usize>(text: &mut Text<N>, r: Refusal)
     requires { length text.old + 12 ≤ N }
     ensures { PutsFew 12 (refused (told_of r)) text.old text.new }
 {
+    let number = u8::from(r);
     text.put(b"refused");
-    text.put_field(u64::from(refusal::number(r)));
+    text.put_field(u64::from(number));
     text.put(b"\n");
 }

@@ -11,13 +11,13 @@ word : (g : _) (c : After-put g) → PutsFew 7 (ascii "refused") c.args.text.now
 unfolding ascii up_to
 word g c = few_of c.put.ensures (omega arith)
 
-number : (g : _) (c : After-put_field g) → PutsFew 4 (field c.number.result) c.put.new.self c.put_field.new.self
-number g c = few_of (rw c.from.ensures at c.put_field.ensures) (field_8 c.number.result (search rules))
+number : (g : _) (c : After-put_field g) → PutsFew 4 (field c.from-number.result) c.put.new.self c.put_field.new.self
+number g c = few_of (rw c.from.ensures at c.put_field.ensures) (field_8 c.from-number.result (search rules))
 
 pub put_field-requires : goal.put_field-requires
 put_field-requires g c =
     let at = goal.at.put_field-requires g c in
-    (search rules, rw c.from.ensures (omega (arith, field_8 c.number.result (search rules), grown (word g at.After-put))))
+    (search rules, rw c.from.ensures (omega (arith, field_8 c.from-number.result (search rules), grown (word g at.After-put))))
 
 pub put-requires-2 : goal.put-requires-2
 put-requires-2 g c =
@@ -28,6 +28,6 @@ pub returns : goal.returns
 unfolding refused ascii up_to
 returns g c =
     let at = goal.at.returns g c in
-    rw (← c.number.ensures)
+    rw (← c.from-number.ensures)
     (few_then {j = 7} {k = 5} (word g at.After-put)
     (few_then {j = 4} {k = 1} (number g at.After-put_field) (few_of c.put-2.ensures (omega arith))))
