@@ -1,11 +1,8 @@
 -- The refusals (§ What the relay declines).
-use Rattle.std.specs.Prelude.{Bool, not, cond, List, [], ◌∷◌, ℕ}
-use Rattle.std.proofs.Math.Option.{Option, none, some}
+use Rattle.std.specs.Prelude.{Bool, not, cond, List, [], ◌∷◌, ℕ, Option, None, Some, Result, Ok, Err}
 use Rattle.lists.specs.Tests.{each}
 use Rattle.refusal.specs.declared.Refusal.{Refusal}
 use Rattle.refusal.specs.declared.Refusal.TheVariants.{Length, Check, Mark, Ends, Field, FactorHigh, FactorsLow, Sets, Spare, Reach, Unused, Record, Room, Count, Offset, Fixed, SlopesFall}
-use Rattle.refusal.specs.declared.Verdict.{Verdict}
-use Rattle.refusal.specs.declared.Verdict.TheVariants.{Accepted, Refused}
 
 -- What a refusal tells, the table's first column: its number, and with 5 an offset.
 pub record Told : Type 0 where
@@ -13,14 +10,14 @@ pub record Told : Type 0 where
   pub offset : Option ℕ
 
 abbrev pub alone : ℕ → Told
-alone n = record { number = n; offset = none }
+alone n = record { number = n; offset = None }
 
 abbrev pub told_of : Refusal → Told
 told_of Length = alone 1
 told_of Check = alone 2
 told_of Mark = alone 3
 told_of Ends = alone 4
-told_of (Field offset) = record { number = 5; offset = some offset }
+told_of (Field offset) = record { number = 5; offset = Some offset }
 told_of FactorHigh = alone 6
 told_of FactorsLow = alone 7
 told_of Sets = alone 8
@@ -44,6 +41,11 @@ number_of r = (told_of r).number
 pub data Outcome (A : Type 0) : Type 0 where
   gives : A → Outcome A
   declines : Told → Outcome A
+
+-- a call's answer in the table's terms
+abbrev pub outcome_of : {A : Type 0} → Result A Refusal → Outcome A
+outcome_of (Ok a) = gives a
+outcome_of (Err r) = declines (told_of r)
 
 -- What follows from an outcome: from what its refusal tells, or from its values. So a call leaves one thing at a refusal, which may depend on
 -- which one it is, and another where it accepts.
@@ -79,8 +81,3 @@ done = gives (tt {0})
 
 abbrev pub first_refusal : List Row → Outcome (Unit {0})
 first_refusal rs = first_of rs (tt {0})
-
--- its answer in the table's terms
-abbrev pub outcome_of : Verdict → Outcome (Unit {0})
-outcome_of Accepted = done
-outcome_of (Refused r) = declines (told_of r)

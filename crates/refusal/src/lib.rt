@@ -1,11 +1,11 @@
-// The refusals, their numbers, and the answer of a call that gives no values.
+// The refusals and their numbers.
 
 #![tactic(auto)]
 
 ghost use Rattle.std.specs.Prelude.{◌≡◌};
 ghost use Rattle.refusal.specs.Refusals.{number_of};
 
-// The refusals, in the order of their numbers 1 to 17.
+// The refusals, in the order of their numbers 1 to 17. A call that may be declined gives `Ok` of its values, or `Err` of its refusal.
 #[derive(Clone, Copy)]
 pub enum Refusal {
     // A block that is not 512 bytes.
@@ -45,33 +45,28 @@ pub enum Refusal {
 }
 
 // The number of a refusal in the table.
-pub fn number(r: Refusal) -> u8
-    ensures { result ≡ number_of r }
-{
-    match r {
-        Refusal::Length => 1,
-        Refusal::Check => 2,
-        Refusal::Mark => 3,
-        Refusal::Ends => 4,
-        Refusal::Field(_) => 5,
-        Refusal::FactorHigh => 6,
-        Refusal::FactorsLow => 7,
-        Refusal::Sets => 8,
-        Refusal::Spare => 9,
-        Refusal::Reach => 10,
-        Refusal::Unused => 11,
-        Refusal::Record => 12,
-        Refusal::Room => 13,
-        Refusal::Count => 14,
-        Refusal::Offset => 15,
-        Refusal::Fixed => 16,
-        Refusal::SlopesFall => 17,
-    }
-}
+impl From<Refusal> for u8 {
+    ghost from_gives = { λ r n. n ≡ number_of r };
 
-// The answer of a call that gives no values: accepted, or the refusal.
-#[derive(Clone, Copy)]
-pub enum Verdict {
-    Accepted,
-    Refused(Refusal),
+    fn from(r: Refusal) -> u8 {
+        match r {
+            Refusal::Length => 1,
+            Refusal::Check => 2,
+            Refusal::Mark => 3,
+            Refusal::Ends => 4,
+            Refusal::Field(_) => 5,
+            Refusal::FactorHigh => 6,
+            Refusal::FactorsLow => 7,
+            Refusal::Sets => 8,
+            Refusal::Spare => 9,
+            Refusal::Reach => 10,
+            Refusal::Unused => 11,
+            Refusal::Record => 12,
+            Refusal::Room => 13,
+            Refusal::Count => 14,
+            Refusal::Offset => 15,
+            Refusal::Fixed => 16,
+            Refusal::SlopesFall => 17,
+        }
+    }
 }

@@ -4,7 +4,7 @@ use mathlib.Core.Path.{◌≡◌, refl, sym, ap, ◌∙◌}
 use mathlib.Core.Bool.{Bool, true, false, cond, true≢false}
 use mathlib.Core.List.Memᴰ
 use mathlib.Core.List.{List, [], ◌∷◌, Memᴰ}
-use mathlib.Core.Option.{Option, none, some}
+use Rattle.std.specs.Prelude.{Option, None, Some}
 use Prim.Native.Nat.{ℕ, ◌≤◌, min}
 use native.Mathlib.Omega.{arith}
 use lib.Dec.{leb}
@@ -37,31 +37,31 @@ module _ {f : Field} {fs : List Field} where
 -- ---- what is given: nothing where no field is wrong, or the least offset
 
 abbrev Given : List Field → Option ℕ → Type 0
-Given fs none = (x : ℕ) → Wrong fs x → ⊥
-Given fs (some x) = Least fs x
+Given fs None = (x : ℕ) → Wrong fs x → ⊥
+Given fs (Some x) = Least fs x
 
 module _ (f : Field) (fs : List Field) where
   -- the first field is right
   right_first : right f ≡ true → (a : Option ℕ) → Given fs a → Given (f ∷ fs) a
-  right_first e none g = λ x w. by (stands w)
+  right_first e None g = λ x w. by (stands w)
     where
       by : {x : ℕ} → Stands f fs x → ⊥
       by (first o r) = true≢false (sym e ∙ r)
       by (later w) = g _ w
-  right_first e (some x) g = record { one = at_later g.one; least = λ y w. by (stands w) }
+  right_first e (Some x) g = record { one = at_later g.one; least = λ y w. by (stands w) }
     where
       by : {y : ℕ} → Stands f fs y → x ≤ y
       by (first o r) = absurd (true≢false (sym e ∙ r))
       by (later w) = g.least _ w
 
   -- the first field is wrong
-  wrong_first : right f ≡ false → (a : Option ℕ) → Given fs a → Given (f ∷ fs) (lower (some (offset_of f)) a)
-  wrong_first e none g = record { one = at_first e; least = λ y w. by (stands w) }
+  wrong_first : right f ≡ false → (a : Option ℕ) → Given fs a → Given (f ∷ fs) (lower (Some (offset_of f)) a)
+  wrong_first e None g = record { one = at_first e; least = λ y w. by (stands w) }
     where
       by : {y : ℕ} → Stands f fs y → offset_of f ≤ y
       by (first o r) = omega (arith, o)
       by (later w) = absurd (g _ w)
-  wrong_first e (some x) g = record { one = one; least = λ y w. by (stands w) }
+  wrong_first e (Some x) g = record { one = one; least = λ y w. by (stands w) }
     where
       pick : (t : Bool) → leb (offset_of f) x ≡ t → Wrong (f ∷ fs) (min (offset_of f) x)
       pick true h = let m : min (offset_of f) x ≡ offset_of f = omega (arith, leb-true (offset_of f) x h) in rw m (at_first e)
@@ -78,22 +78,22 @@ given : (fs : List Field) → Given fs (lowest fs)
 given [] = λ x w. Memᴰ.not-nil w.of
 given (f ∷ fs) = by (right f) refl (given fs)
   where
-    by : (t : Bool) → right f ≡ t → Given fs (lowest fs) → Given (f ∷ fs) (lower (cond t none (some (offset_of f))) (lowest fs))
+    by : (t : Bool) → right f ≡ t → Given fs (lowest fs) → Given (f ∷ fs) (lower (cond t None (Some (offset_of f))) (lowest fs))
     by true e g = right_first f fs e (lowest fs) g
     by false e g = wrong_first f fs e (lowest fs) g
 
 -- ---- and only that
 
-only : {fs : List Field} {x : ℕ} → Least fs x → (a : Option ℕ) → Given fs a → a ≡ some x
-only l none g = absurd (g _ l.one)
-only {x = x} l (some y) g = let e : y ≡ x = omega (arith, g.least x l.one, l.least y g.one) in ap some e
+only : {fs : List Field} {x : ℕ} → Least fs x → (a : Option ℕ) → Given fs a → a ≡ Some x
+only l None g = absurd (g _ l.one)
+only {x = x} l (Some y) g = let e : y ≡ x = omega (arith, g.least x l.one, l.least y g.one) in ap Some e
 
-right_none : (fs : List Field) → all_right fs ≡ true → lowest fs ≡ none
+right_none : (fs : List Field) → all_right fs ≡ true → lowest fs ≡ None
 right_none fs e = by (lowest fs) refl
   where
-    by : (a : Option ℕ) → lowest fs ≡ a → a ≡ none
-    by none h = refl
-    by (some x) h = absurd (true≢false (sym e ∙ some_wrong fs h))
+    by : (a : Option ℕ) → lowest fs ≡ a → a ≡ None
+    by None h = refl
+    by (Some x) h = absurd (true≢false (sym e ∙ some_wrong fs h))
 
 pub lowest_given : LowestGiven
 unfolding LowestGiven

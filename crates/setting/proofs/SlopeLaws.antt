@@ -2,7 +2,7 @@
 -- first if it is 4 or 5, and 17 else.
 use mathlib.Core.Path.{◌≡◌, refl, sym, ◌∙◌}
 use mathlib.Core.Bool.{Bool, true, false, not, cond, ◌&&◌}
-use mathlib.Core.Option.{Option}
+use Rattle.std.specs.Prelude.{Option}
 use Prim.Native.Nat.{ℕ, ◌≤◌, ◌<◌}
 use native.Mathlib.Omega.{arith}
 use lib.Dec.{T, leb, ltb→lt}
@@ -40,20 +40,6 @@ module _ (v : Setting) where
       by false false true d x = refl
       by false false false true x = refl
       by false false false false x = refl
-
-  -- by what a block's rows tell, where slopes fall
-  module _ (f : v.thresholds.slope2 < v.thresholds.slope1) where
-    falls : falling v.thresholds ≡ true
-    falls = lt-ltb v.thresholds.slope2 v.thresholds.slope1 f
-
-    pub told_before : (r : Refusal) → declines (told_of r) ≡ first_refusal (store_rows v) → number_of r ≤ 5 → declines (told_of r) ≡ first_refusal (start_rows v)
-    told_before r e l = sym (told_falling falls ∙ rw (← e, le-leb (number_of r) 5 l))
-
-    pub told_17 : (r : Refusal) → declines (told_of r) ≡ first_refusal (store_rows v) → 5 < number_of r → declines (alone 17) ≡ first_refusal (start_rows v)
-    told_17 r e l = sym (told_falling falls ∙ rw (← e, lt-leb (number_of r) 5 l))
-
-    pub told_alone : done ≡ first_refusal (store_rows v) → declines (alone 17) ≡ first_refusal (start_rows v)
-    told_alone e = sym (told_falling falls ∙ rw (← e))
 
 -- ---- on which values nothing is told
 

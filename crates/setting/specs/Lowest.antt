@@ -1,8 +1,7 @@
 -- The offset with refusal 5 is the lowest of a field outside its rule (§ What the relay declines, card 3), whatever the order in which the fields are
 -- listed: what is said of it here speaks of the fields that are there, and of no order.
-use Rattle.std.specs.Prelude.{◌≡◌, true, false, ℕ, ◌≤◌}
+use Rattle.std.specs.Prelude.{◌≡◌, true, false, ℕ, ◌≤◌, None, Some}
 use mathlib.Core.List.{List, Memᴰ}
-use Rattle.std.proofs.Math.Option.{none, some}
 use Rattle.setting.specs.declared.Field.{Field}
 use Rattle.setting.specs.Values.{offset_of, right, all_right, lowest}
 
@@ -22,6 +21,6 @@ pub record Least (fs : List Field) (x : ℕ) : Type 0 where
 unfoldable pub LowestGiven : Type 0
 LowestGiven =
     (fs : List Field) →
-    ((x : ℕ) → (lowest fs ≡ some x → Least fs x) × (Least fs x → lowest fs ≡ some x))
-    × (lowest fs ≡ none → all_right fs ≡ true)
-    × (all_right fs ≡ true → lowest fs ≡ none)
+    ((x : ℕ) → (lowest fs ≡ Some x → Least fs x) × (Least fs x → lowest fs ≡ Some x))
+    × (lowest fs ≡ None → all_right fs ≡ true)
+    × (all_right fs ≡ true → lowest fs ≡ None)

@@ -1,6 +1,5 @@
 -- Setting values and their rules (§ The setting block; the limits of § Matching 3).
-use Rattle.std.specs.Prelude.{Bool, true, not, ◌&&◌, cond, List, [], ◌∷◌, ◌++◌, ℕ, ◌+◌, ◌*◌, min, leb, ltb, eqb, get_or, ℤ, pos}
-use Rattle.std.proofs.Math.Option.{Option, none, some}
+use Rattle.std.specs.Prelude.{Bool, true, not, ◌&&◌, cond, List, [], ◌∷◌, ◌++◌, ℕ, ◌+◌, ◌*◌, min, leb, ltb, eqb, get_or, ℤ, pos, count_by, Option, None, Some}
 use Rattle.std.specs.Int.Signed.{le_z}
 use Rattle.integer.specs.Nearest.{nearest}
 use Rattle.lists.specs.Lists.{up_to}
@@ -82,17 +81,17 @@ all_right fs = each right fs
 
 -- the lower of two offsets, of those that there are
 abbrev pub lower : Option ℕ → Option ℕ → Option ℕ
-lower none b = b
-lower (some x) none = some x
-lower (some x) (some y) = some (min x y)
+lower None b = b
+lower (Some x) None = Some x
+lower (Some x) (Some y) = Some (min x y)
 
 -- the offset of a field outside its rule
 abbrev pub wrong_at : Field → Option ℕ
-wrong_at f = cond (right f) none (some (offset_of f))
+wrong_at f = cond (right f) None (Some (offset_of f))
 
 -- the lowest offset of a field outside its rule, in whatever order the fields are listed
 abbrev pub lowest : List Field → Option ℕ
-lowest [] = none
+lowest [] = None
 lowest (f ∷ fs) = lower (wrong_at f) (lowest fs)
 
 -- ---- the factors, and their limits
@@ -116,14 +115,9 @@ factors v = up_to v.ends (factor v)
 unfoldable pub factor_high : Setting → Bool
 factor_high v = not (each (λ k. le_z k (pos 1048576)) (factors v))
 
--- how many elements pass
-abbrev pub count : {A : Type 0} → (A → Bool) → List A → ℕ
-count t [] = 0
-count t (a ∷ l) = cond (t a) 1 0 + count t l
-
 -- the second largest K below 32,768 (0.5): fewer than two factors reach it, equal ones counted separately
 unfoldable pub factors_low : Setting → Bool
-factors_low v = ltb (count (le_z (pos 32768)) (factors v)) 2
+factors_low v = ltb (count_by (le_z (pos 32768)) (factors v)) 2
 
 -- ---- the refusals of values whose fields are `fs`
 

@@ -1,7 +1,6 @@
 -- Values with slopes that fall, are level and rise, alone and beside other faults: what refuses them in a block and at a start (§ The order of
 -- refusals 2 and 5), worked out by hand.
-use Rattle.std.specs.Prelude.{◌≡◌, refl, List, [], ◌∷◌, map, ℕ}
-use Rattle.std.proofs.Math.Option.{some}
+use Rattle.std.specs.Prelude.{◌≡◌, refl, List, [], ◌∷◌, map, ℕ, Some}
 use Rattle.integer.specs.Nearest.{nearest, floor}
 use Rattle.lists.specs.Lists.{up_to}
 use Rattle.refusal.specs.Refusals.{Told, alone, Row, declines, by_outcome, done, first_refusal}
@@ -18,7 +17,7 @@ abbrev pub told_of_both : Setting → List Told
 told_of_both v = told_by (store_rows v) ∷ told_by (start_rows v) ∷ []
 
 abbrev pub field_at : ℕ → Told
-field_at x = record { number = 5; offset = some x }
+field_at x = record { number = 5; offset = Some x }
 
 -- a k above 16, and both below 0.5 (§ Numbers to meet)
 abbrev pub too_high : Setting

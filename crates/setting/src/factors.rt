@@ -1,9 +1,9 @@
 // The factors K that match an end's currents to the reference, and their limits.
 
-ghost use Rattle.std.specs.Prelude.{◌≡◌, ◌*◌, ◌<◌, pos};
+ghost use Rattle.std.specs.Prelude.{◌≡◌, ◌*◌, ◌<◌, pos, count_by};
 ghost use Rattle.std.specs.Int.Signed.{le_z};
 ghost use Rattle.integer.specs.Nearest.{nearest as nearest_of};
-ghost use Rattle.setting.specs.Values.{factor_top, count};
+ghost use Rattle.setting.specs.Values.{factor_top};
 ghost use Rattle.setting.specs.Limits.{Rated, Limits, factor_or0, four_factors};
 
 use crate::{End, Setting, rules};
@@ -43,15 +43,7 @@ pub fn factors(v: Setting) -> [i64; 4]
 
 // How many factors are at least so large.
 pub fn how_many(k: [i64; 4], least: u32) -> u8
-    ensures { result ≡ count (le_z (pos least)) k }
+    ensures { result ≡ count_by (le_z (pos least)) k }
 {
-    let mut n: u8 = 0;
-    let mut z: usize = 0;
-    while z < 4 {
-        if least as i64 <= k[z] {
-            n += 1;
-        }
-        z += 1;
-    }
-    n
+    k.iter().filter(|x| i64::from(least) <= **x).count() as u8
 }

@@ -1,69 +1,75 @@
 // The verdict on setting values: whether a block may hold them, or the refusal, 4 to 7; and whether a relay can be started on them, or the refusal, 4, 5,
 // 17, 6, 7.
 
-ghost use Rattle.std.specs.Prelude.{◌≡◌};
+ghost use Rattle.std.specs.Prelude.{◌≡◌, OnOk};
 ghost use Rattle.setting.specs.Values.{startable};
-ghost use Rattle.setting.specs.Calls.{Judges, JudgesStart, JudgesBeside};
+ghost use Rattle.setting.specs.Limits.{Limits};
+ghost use Rattle.setting.specs.Calls.{Judges, JudgesStart, JudgesBeside, JudgesFields, JudgesFactors};
 ghost use Rattle.setting.specs.Slopes.{StartableIs, StartAfterReading};
 
-use crate::{Fault, Setting, factors, rules};
-use refusal::{Refusal, Verdict};
+use crate::{Setting, factors, rules};
+use refusal::Refusal;
 
-// Refusals 4 to 7 of setting values, with a fault found beside those of the fields.
-pub fn verdict_beside(v: Setting, beside: Fault) -> Verdict
-    ensures { JudgesBeside v beside result }
+// Refusals 4 and 5 of setting values, with a fault found beside those of the fields.
+fn fields_verdict(v: Setting, beside: Option<u16>) -> Result<(), Refusal>
+    ensures rows { JudgesFields v beside result }
+    ensures limits { OnOk result (Limits v) }
 {
-    if v.ends < 2 {
-        return Verdict::Refused(Refusal::Ends);
+    if v.ends < 2 || 4 < v.ends {
+        return Err(Refusal::Ends);
     }
-    if 4 < v.ends {
-        return Verdict::Refused(Refusal::Ends);
+    match rules::sooner(rules::fault(v), beside) {
+        Some(x) => Err(Refusal::Field(x)),
+        None => Ok(()),
     }
-    let f = rules::sooner(rules::fault(v), beside);
-    if let Fault::At(x) = f {
-        return Verdict::Refused(Refusal::Field(x));
-    }
+}
+
+// Refusals 6 and 7.
+fn factors_verdict(v: Setting) -> Result<(), Refusal>
+    requires { Limits v }
+    ensures { JudgesFactors v result }
+{
     let k = factors::factors(v);
     if 0 < factors::how_many(k, 1048577) {
-        return Verdict::Refused(Refusal::FactorHigh);
+        return Err(Refusal::FactorHigh);
     }
     if factors::how_many(k, 32768) < 2 {
-        return Verdict::Refused(Refusal::FactorsLow);
+        return Err(Refusal::FactorsLow);
     }
-    Verdict::Accepted
+    Ok(())
+}
+
+// Refusals 4 to 7 of setting values, with a fault found beside those of the fields.
+pub fn verdict_beside(v: Setting, beside: Option<u16>) -> Result<(), Refusal>
+    ensures { JudgesBeside v beside result }
+{
+    fields_verdict(v, beside)?;
+    factors_verdict(v)
 }
 
 // Whether a block may hold setting values, or the refusal, 4 to 7.
-pub fn verdict(v: Setting) -> Verdict
+pub fn verdict(v: Setting) -> Result<(), Refusal>
     ensures { Judges v result }
 {
-    verdict_beside(v, Fault::Nowhere)
+    verdict_beside(v, None)
 }
 
 // Whether a relay can be started on setting values, or the refusal: slopes that fall are told after 4 and 5, and before 6 and 7.
-pub fn start_verdict(v: Setting) -> Verdict
+pub fn start_verdict(v: Setting) -> Result<(), Refusal>
     ensures { JudgesStart v result }
 {
-    let stored = verdict(v);
-    if v.thresholds.slope1 <= v.thresholds.slope2 {
-        return stored;
+    fields_verdict(v, None)?;
+    if v.thresholds.slope2 < v.thresholds.slope1 {
+        return Err(Refusal::SlopesFall);
     }
-    if let Verdict::Refused(r) = stored {
-        if refusal::number(r) <= 5 {
-            return stored;
-        }
-    }
-    Verdict::Refused(Refusal::SlopesFall)
+    factors_verdict(v)
 }
 
 // Whether a relay can be started on setting values.
 pub fn sound(v: Setting) -> bool
     ensures { result ≡ startable v }
 {
-    match start_verdict(v) {
-        Verdict::Accepted => true,
-        Verdict::Refused(_) => false,
-    }
+    start_verdict(v).is_ok()
 }
 
 // What a relay can be started on, beside what a block may hold: no code, the two statements and their proofs.

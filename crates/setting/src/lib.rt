@@ -60,10 +60,3 @@ pub struct Overcurrent {
 // not in use is zero.
 #[derive(Clone, Copy)]
 pub struct Field(pub u16, pub bool, pub u32, pub u32, pub u32);
-
-// The lowest offset of a field outside its rule, if there is one.
-#[derive(Clone, Copy)]
-pub enum Fault {
-    Nowhere,
-    At(u16),
-}

@@ -2,22 +2,18 @@
 
 ghost use Rattle.std.specs.Prelude.{◌≡◌, ◌<◌};
 ghost use Rattle.setting.specs.Values.{end_of, right as right_of, fields as fields_of, lower, lowest};
-ghost use Rattle.setting.specs.Calls.{found};
 ghost use Rattle.setting.specs.Lowest.{LowestGiven};
 
-use crate::{End, Fault, Field, Setting};
+use crate::{End, Field, Setting};
 
-// The fault with the lower offset.
-pub fn sooner(a: Fault, b: Fault) -> Fault
-    ensures { found result ≡ lower (found a) (found b) }
+// The lower of two offsets, of those that there are.
+pub fn sooner(a: Option<u16>, b: Option<u16>) -> Option<u16>
+    ensures { result ≡ lower a b }
 {
-    let Fault::At(x) = a else {
-        return b;
+    let (Some(x), Some(y)) = (a, b) else {
+        return a.or(b);
     };
-    let Fault::At(y) = b else {
-        return a;
-    };
-    if x <= y { a } else { b }
+    Some(x.min(y))
 }
 
 // The end z.
@@ -85,25 +81,19 @@ fn right(f: Field) -> bool
 {
     let Field(_, used, least, most, value) = f;
     if used {
-        return least <= value && value <= most;
+        least <= value && value <= most
+    } else {
+        value == 0
     }
-    value == 0
 }
 
 // The lowest offset of a field outside its rule: the first that is met in block order.
-pub fn fault(v: Setting) -> Fault
-    ensures { found result ≡ lowest (fields_of v) }
+pub fn fault(v: Setting) -> Option<u16>
+    ensures { result ≡ lowest (fields_of v) }
 {
-    let fs = fields(v);
-    let mut k: usize = 0;
-    while k < 28 {
-        let f = fs[k];
-        if !right(f) {
-            return Fault::At(f.0);
-        }
-        k += 1;
-    }
-    Fault::Nowhere
+    let fields = fields(v);
+    let wrong = fields.iter().find(|f| !right(**f))?;
+    Some(wrong.0)
 }
 
 // What is lowest does not depend on the order of the fields: no code, the statement and its proof.

@@ -1,5 +1,5 @@
 -- What the writer gives in each of its cases, and the block that it makes.
-use mathlib.Core.Path.{◌≡◌, sym, ap, ◌∙◌}
+use mathlib.Core.Path.{◌≡◌, refl, sym, ap, ◌∙◌}
 use mathlib.Core.List.{List, [], ◌∷◌, ◌++◌, append_assoc}
 use Prim.Native.Nat.{ℕ, ◌+◌, ◌<◌, ◌≤◌}
 use native.Mathlib.Omega.{arith}
@@ -7,17 +7,16 @@ use lib.Dec.{ltb}
 use lib.ListN.{length, take, drop, replicate, length-append}
 use lib.Seq.{length-take-le, take_at, take-append-add, drop-append-add, drop-drop}
 use borrow.Author.Tests.{lt-ltb, le-ltb}
+use Rattle.std.specs.Prelude.{Result, Ok, Err}
 use Rattle.refusal.specs.declared.Refusal.{Refusal}
-use Rattle.refusal.specs.declared.Verdict.{Verdict}
-use Rattle.refusal.specs.declared.Verdict.TheVariants.{Accepted, Refused}
-use Rattle.refusal.specs.Refusals.{alone, told_of, Row, declines, done, by_outcome, ◌when◌, first_refusal, outcome_of}
+use Rattle.refusal.specs.Refusals.{told_of, Row, declines, done, ◌when◌, first_refusal, outcome_of}
 use Rattle.block.specs.Block.{sealed, buffer_with}
 use Rattle.setting.specs.declared.Setting.{Setting}
 use Rattle.setting.specs.Values.{store_rows}
 use Rattle.setting.specs.Calls.{Judges}
 use Rattle.setting_block.specs.Layout.{Laid, header, block_of}
 use Rattle.setting_block.specs.Calls.{write_rows, write_of, Writes}
-use Rattle.refusal.proofs.Stops.{first_of-++}
+use Rattle.refusal.proofs.Stops.{refusal_stays, done_goes_on}
 
 -- two pieces, put one after the other, are one
 infixl 65 ◌then◌
@@ -42,19 +41,21 @@ module _ (v : Setting) (buffer : List ℕ) where
   abbrev room : List Row
   room = (13 when ltb (length buffer) 512) ∷ []
 
-  -- what the rows give, by the verdict on the values
-  rows_by : (r : Verdict) → Judges v r → write_of v buffer ≡ by_outcome (outcome_of r) declines (λ _. first_refusal room)
+  -- a refusal leaves the buffer
+  declined : (r : Result (Unit {0}) Refusal) (q : Refusal) → outcome_of r ≡ declines (told_of q) → declines (told_of q) ≡ write_of v buffer → Writes v buffer r buffer
+  declined r q e o = record { outcome = e ∙ o; bytes = rw (← o) }
+
+  pub not_sound : (r : Result (Unit {0}) Refusal) (q : Refusal) → outcome_of r ≡ declines (told_of q) → Judges v (Err q) → Writes v buffer r buffer
   unfolding write_rows
-  rows_by r j = rw j (first_of-++ (tt {0}) (tt {0}) room (store_rows v))
+  not_sound r q e j = declined r q e (refusal_stays (store_rows v) room j)
 
-  pub not_sound : (q : Refusal) → Judges v (Refused q) → Writes v buffer (Refused q) buffer
-  not_sound q j = let o : write_of v buffer ≡ declines (told_of q) = rows_by (Refused q) j in record { outcome = sym o; bytes = rw o }
+  module _ (j : Judges v (Ok (tt {0}))) where
+    past : write_of v buffer ≡ first_refusal room
+    unfolding write_rows
+    past = done_goes_on (store_rows v) room j
 
-  module _ (j : Judges v Accepted) where
-    pub no_room : length buffer < 512 → (q : Refusal) → told_of q ≡ alone 13 → Writes v buffer (Refused q) buffer
-    no_room h q e =
-        let o : write_of v buffer ≡ declines (told_of q) = rows_by Accepted j ∙ rw (lt-ltb (length buffer) 512 h, e) in
-        record { outcome = sym o; bytes = rw o }
+    pub no_room : length buffer < 512 → Writes v buffer (Err Refusal.Room) buffer
+    no_room h = declined (Err Refusal.Room) Refusal.Room refl (sym (past ∙ rw (lt-ltb (length buffer) 512 h)))
 
-    pub written : 512 ≤ length buffer → Writes v buffer Accepted (buffer_with buffer (block_of v))
-    written h = let o : write_of v buffer ≡ done = rows_by Accepted j ∙ rw (le-ltb (length buffer) 512 h) in record { outcome = sym o; bytes = rw o }
+    pub written : 512 ≤ length buffer → Writes v buffer (Ok (tt {0})) (buffer_with buffer (block_of v))
+    written h = let o : write_of v buffer ≡ done = past ∙ rw (le-ltb (length buffer) 512 h) in record { outcome = sym o; bytes = rw o }

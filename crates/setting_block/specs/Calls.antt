@@ -1,14 +1,11 @@
 -- The setting reader and writer (§ The order of refusals 1 and 2).
-use Rattle.std.specs.Prelude.{◌≡◌, not, List, [], ◌∷◌, ◌++◌, ℕ, eqb, ltb, length}
-use Rattle.refusal.specs.declared.Verdict.{Verdict}
-use Rattle.refusal.specs.Refusals.{told_of, Outcome, gives, declines, by_outcome, Row, ◌when◌, first_of, first_refusal}
-use Rattle.refusal.specs.Refusals as Refusals
+use Rattle.std.specs.Prelude.{◌≡◌, not, List, [], ◌∷◌, ◌++◌, ℕ, eqb, ltb, length, Result}
+use Rattle.refusal.specs.declared.Refusal.{Refusal}
+use Rattle.refusal.specs.Refusals.{Outcome, by_outcome, outcome_of, Row, ◌when◌, first_of, first_refusal}
 use Rattle.block.specs.Block.{checked, buffer_with}
 use Rattle.setting.specs.declared.Field.{Field}
 use Rattle.setting.specs.declared.Setting.{Setting}
 use Rattle.setting.specs.Values.{fields, value_rows, store_rows}
-use Rattle.setting_block.specs.declared.ReadSetting.{ReadSetting}
-use Rattle.setting_block.specs.declared.ReadSetting.TheVariants.{Accepted, Refused}
 use Rattle.setting_block.specs.Layout.{setting_at, marked, spares, block_of}
 
 -- ---- the reader
@@ -28,13 +25,8 @@ read_rows s =
 abbrev pub read_of : List ℕ → Outcome Setting
 read_of s = first_of (read_rows s) (setting_at s)
 
--- the reader's answer in the table's terms
-abbrev pub outcome_of : ReadSetting → Outcome Setting
-outcome_of (Accepted v) = gives v
-outcome_of (Refused r) = declines (told_of r)
-
 -- what reading the block s gives
-abbrev pub Reads : List ℕ → ReadSetting → Type 0
+abbrev pub Reads : List ℕ → Result Setting Refusal → Type 0
 Reads s r = outcome_of r ≡ read_of s
 
 -- ---- the writer
@@ -51,6 +43,6 @@ abbrev pub write_leaves : Setting → (buffer : List ℕ) → List ℕ
 write_leaves v buffer = by_outcome (write_of v buffer) (λ refusal. buffer) (λ done. buffer_with buffer (block_of v))
 
 -- what writing the values v to a buffer gives
-pub record Writes (v : Setting) (before : List ℕ) (r : Verdict) (after : List ℕ) : Type 0 where
-  pub outcome : Refusals.outcome_of r ≡ write_of v before
+pub record Writes (v : Setting) (before : List ℕ) (r : Result (Unit {0}) Refusal) (after : List ℕ) : Type 0 where
+  pub outcome : outcome_of r ≡ write_of v before
   pub bytes : after ≡ write_leaves v before

@@ -4,13 +4,3 @@
 
 pub mod reader;
 pub mod writer;
-
-use refusal::Refusal;
-use setting::Setting;
-
-// What reading a block gives.
-#[derive(Clone, Copy)]
-pub enum ReadSetting {
-    Accepted(Setting),
-    Refused(Refusal),
-}

@@ -5,11 +5,9 @@ ghost use Rattle.setting_block.specs.Layout.{end_at, setting_at, marked as marke
 ghost use Rattle.setting_block.specs.Calls.{Reads};
 ghost use Rattle.setting_block.specs.Held.{ReadHeld, HeldRead, FallenRead};
 ghost use Rattle.setting.specs.Values.{lowest};
-ghost use Rattle.setting.specs.Calls.{found};
 
-use crate::ReadSetting;
-use refusal::{Refusal, Verdict};
-use setting::{End, Fault, Overcurrent, Setting, Thresholds, judging};
+use refusal::Refusal;
+use setting::{End, Overcurrent, Setting, Thresholds, judging};
 
 fn marked(s: &[u8]) -> bool
     requires { length s.now ≡ 512 }
@@ -82,51 +80,37 @@ fn few_spares() -> [u16; 9]
 }
 
 // The first byte that must be zero and is not: one of the few, or from 77 on, where most blocks have nothing but zeros.
-fn spare_fault(s: &[u8]) -> Fault
+fn spare_fault(s: &[u8]) -> Option<u16>
     requires { length s.now ≡ 512 }
-    ensures { found result ≡ lowest (spares s.now) }
+    ensures { result ≡ lowest (spares s.now) }
 {
     let few = few_spares();
-    let mut k: usize = 0;
-    while k < 9 {
-        let at = few[k];
-        if s[at as usize] != 0 {
-            return Fault::At(at);
-        }
-        k += 1;
+    if let Some(at) = few.iter().find(|at| s[usize::from(**at)] != 0) {
+        return Some(*at);
     }
     if block::zeros(&s[77..510]) {
-        return Fault::Nowhere;
+        return None;
     }
-    while k < 442 {
-        let at = 68 + k;
-        if s[at] != 0 {
-            return Fault::At(at as u16);
-        }
-        k += 1;
-    }
-    Fault::Nowhere
+    let k = s[77..510].iter().position(|x| *x != 0)?;
+    Some(77 + k as u16)
 }
 
 // The values of a setting block, or the refusal, 1 to 7.
-pub fn read_setting(s: &[u8]) -> ReadSetting
+pub fn read_setting(s: &[u8]) -> Result<Setting, Refusal>
     ensures { Reads s.now result }
 {
     if s.len() != 512 {
-        return ReadSetting::Refused(Refusal::Length);
+        return Err(Refusal::Length);
     }
     if !block::checked(s) {
-        return ReadSetting::Refused(Refusal::Check);
+        return Err(Refusal::Check);
     }
     if !marked(s) {
-        return ReadSetting::Refused(Refusal::Mark);
+        return Err(Refusal::Mark);
     }
     let v = setting_at(s);
-    let judged = judging::verdict_beside(v, spare_fault(s));
-    match judged {
-        Verdict::Accepted => ReadSetting::Accepted(v),
-        Verdict::Refused(r) => ReadSetting::Refused(r),
-    }
+    judging::verdict_beside(v, spare_fault(s))?;
+    Ok(v)
 }
 
 // What the reader gives is what a block may hold, slopes that fall among it: no code, the statements and their proofs.

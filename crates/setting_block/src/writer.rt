@@ -6,7 +6,7 @@ ghost use Rattle.setting_block.specs.Layout.{Laid, end_bytes, block_of};
 ghost use Rattle.setting_block.specs.Calls.{Writes};
 ghost use Rattle.setting_block.specs.RoundTrip.{ReadThenWrite, WriteThenRead};
 
-use refusal::{Refusal, Verdict};
+use refusal::Refusal;
 use setting::{End, Setting, judging};
 
 // A block with some bytes put at a place; with a number of two bytes, of four, with an end.
@@ -74,17 +74,15 @@ fn block_of(v: Setting) -> [u8; 512]
 }
 
 // Writes setting values as a block to the first 512 bytes of a buffer: 4 to 7, then 13.
-pub fn write_setting(v: Setting, buffer: &mut [u8]) -> Verdict
+pub fn write_setting(v: Setting, buffer: &mut [u8]) -> Result<(), Refusal>
     ensures { Writes v buffer.old result buffer.new }
 {
-    if let Verdict::Refused(r) = judging::verdict(v) {
-        return Verdict::Refused(r);
-    }
+    judging::verdict(v)?;
     if buffer.len() < 512 {
-        return Verdict::Refused(Refusal::Room);
+        return Err(Refusal::Room);
     }
     block::place(buffer, block_of(v));
-    Verdict::Accepted
+    Ok(())
 }
 
 // Reading and writing undo each other: no code, the two statements and their proofs.

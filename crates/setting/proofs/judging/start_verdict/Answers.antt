@@ -1,48 +1,34 @@
--- `setting::judging::start_verdict` meets its contract: where slopes do not fall the verdict is that of a block, and where they fall 17 stands beside it.
-use borrow.Author.Rules.{rules}
-use mathlib.Core.Path.{◌≡◌, sym, ap, ◌∙◌}
-use native.Mathlib.Omega.{arith}
-use borrow.Author.Tests.{le-ltb}
-use Prim.Native.Nat.{◌≤◌, ◌<◌}
-use Rattle.refusal.specs.declared.Verdict.{Verdict}
-use Rattle.refusal.specs.Refusals.{outcome_of, first_refusal}
+-- `setting::judging::start_verdict` meets its contract: a refusal of the fields stays, past them slopes that fall are told, and past these the factors tell.
+use borrow.Author.Tests.{lt-ltb, le-ltb}
+use mathlib.Core.Path.{◌≡◌, sym, ◌∙◌, refl}
+use mathlib.Core.List.{[], ◌∷◌}
+use Rattle.std.specs.Prelude.{List}
+use Rattle.refusal.specs.Refusals.{Row, ◌when◌, done, first_refusal}
+use Rattle.refusal.proofs.Stops.{told_up, refusal_stays, done_goes_on}
 use Rattle.setting.specs.declared.Setting.{Setting}
-use Rattle.setting.specs.Values.{store_rows}
-use Rattle.setting.proofs.SlopeLaws.{told_level, told_before, told_17, told_alone}
+use Rattle.setting.specs.Values.{fields, field_rows, falling, factor_rows, start_rows}
 use Rattle.setting.proofs.judging.start_verdict.Goals as goal
-use Rattle.setting.proofs.judging.start_verdict.Goals.{Else-v}
 
-pub verdict-stored-requires : goal.verdict-stored-requires
-verdict-stored-requires c = search rules
+abbrev rest : Setting → List Row
+rest v = (17 when falling v.thresholds) ∷ factor_rows v
+
+-- past the fields
+past : (v : Setting) → done ≡ first_refusal (field_rows (fields v) v) → first_refusal (start_rows v) ≡ first_refusal (rest v)
+unfolding start_rows
+past v e = done_goes_on (field_rows (fields v) v) (rest v) e
+
+pub returns-in_err-fields_verdict : goal.returns-in_err-fields_verdict
+unfolding start_rows
+returns-in_err-fields_verdict c =
+    told_up c.from_residual.result _ c.from_residual.ensures.1
+    ∙ refusal_stays (field_rows (fields c.args.v) c.args.v) (rest c.args.v) (c.in_err-fields_verdict.ensures.rows [] refl)
 
 pub returns-then-v : goal.returns-then-v
 returns-then-v c =
-    let s = c in
-    let t = s.args.v.thresholds in
-    let rise : t.slope1 ≤ t.slope2 = omega (arith, c.if-v.true) in
-    s.verdict-stored.ensures ∙ sym (told_level s.args.v (le-ltb t.slope2 t.slope1 rise))
+    let t = c.args.v.thresholds in
+    sym (past c.args.v (c.in_ok-fields_verdict.ensures.rows [] refl) ∙ rw (lt-ltb t.slope2 t.slope1 c.if-v.true))
 
--- where slopes fall
-module _ (c : Else-v) where
-  abbrev v : Setting
-  v = c.args.v
-
-  fall : v.thresholds.slope2 < v.thresholds.slope1
-  fall = omega (arith, c.if-v.false)
-
-  -- what a block's rows tell
-  stored : {r : Verdict} → c.verdict-stored.result ≡ r → outcome_of r ≡ first_refusal (store_rows v)
-  stored e = ap outcome_of (sym e) ∙ c.verdict-stored.ensures
-
-pub returns-then-number-le5 : goal.returns-then-number-le5
-returns-then-number-le5 c =
-    let e = (goal.at.returns-then-number-le5 c).Else-v in
-    told_before (v e) (fall e) _ (stored e c.in-Refused.is) (omega (arith, c.number.ensures, c.if-number-le5.true))
-
-pub returns-else-number-le5 : goal.returns-else-number-le5
-returns-else-number-le5 c =
-    let e = (goal.at.returns-else-number-le5 c).Else-v in
-    told_17 (v e) (fall e) _ (stored e c.in-Refused.is) (omega (arith, c.number.ensures, c.if-number-le5.false))
-
-pub returns-in_default : goal.returns-in_default
-returns-in_default c = let e = (goal.at.returns-in_default c).Else-v in told_alone (v e) (fall e) (stored e c.in_default.is)
+pub returns : goal.returns
+returns c =
+    let t = c.args.v.thresholds in
+    c.factors_verdict.ensures ∙ sym (past c.args.v (c.in_ok-fields_verdict.ensures.rows [] refl) ∙ rw (le-ltb t.slope2 t.slope1 c.if-v.false))

@@ -1,11 +1,7 @@
 -- `setting::judging::verdict` meets its contract: no fields beside those of the values.
-use borrow.Author.Rules.{rules}
 use mathlib.Core.Path.{refl}
 use mathlib.Core.List.{[], append-nil}
 use Rattle.setting.proofs.judging.verdict.Goals as goal
-
-pub verdict_beside-requires : goal.verdict_beside-requires
-verdict_beside-requires c = search rules
 
 pub returns : goal.returns
 returns c = rw append-nil at (c.verdict_beside.ensures [] refl)

@@ -1,23 +1,26 @@
--- `setting::rules::fault` meets its contract. The loop's invariant: the search from k on gives what the whole search gives; the fields stand in block
--- order, so that it gives the lowest offset. The measure is what is left.
+-- `setting::rules::fault` meets its contract: the search finds the first field outside its rule, and of fields whose offsets rise the first is the lowest.
 use borrow.Author.Rules.{rules}
-use mathlib.Core.Path.{◌≡◌, refl, sym, ap, ◌∙◌}
-use mathlib.Core.Bool.{false}
-use Rattle.setting.specs.Values.{fields, lowest}
-use Rattle.setting.proofs.FieldLaws.{first_wrong, search_turn, search_done, first_lowest}
+use borrow.Author.Tests.{tests}
+use mathlib.Core.Path.{◌≡◌, sym, ap, ◌∙◌}
+use Rattle.std.specs.Prelude.{not, option_map}
+use Rattle.std.proofs.lemmas.Iterator.{YieldsList-from_slice}
+use Rattle.std.proofs.lemmas.Iterator.Search.{find_from_yields_List}
+use Rattle.setting.specs.Values.{offset_of, right, fields, lowest}
+use Rattle.setting.proofs.FieldLaws.{first_wrong, first_lowest}
 use Rattle.setting.proofs.rules.fault.Goals as goal
-use Rattle.setting.proofs.rules.fault.Goals.{After-fields-fs}
+use Rattle.setting.proofs.rules.fault.Goals.{After-find}
 
--- the fields' offsets rise
-first_is : (c : After-fields-fs) → first_wrong c.fields-fs.result ≡ lowest (fields c.args.v)
-first_is c = ap first_wrong c.fields-fs.ensures ∙ first_lowest 0 (fields c.args.v) tt
-
-pub returns-then-not-right : goal.returns-then-not-right
-returns-then-not-right c =
-    let turn = search_turn c.fields-fs.result c.loop-k.k c.loop-k.invariant.1 (0, false, 0, 0, 0) refl (search rules) in
-    sym (turn ∙ rw (sym c.right.ensures ∙ c.if-not-right.true)) ∙ first_is (goal.at.returns-then-not-right c).After-fields-fs
+-- the offset of what the search finds
+first : (c : After-find) → option_map offset_of (option_map (λ f. f.now) c.find.result) ≡ lowest (fields c.args.v)
+first c =
+    ap (option_map offset_of)
+    (find_from_yields_List (λ f. not (right f)) _ _ c.find.result c.find.ensures.ran (YieldsList-from_slice c.fields-fields.result cc)
+    (λ x b q k. search (rules, tests)))
+    ∙ ap first_wrong c.fields-fields.ensures
+    ∙ first_lowest 0 (fields c.args.v) tt
 
 pub returns : goal.returns
-returns c =
-    let f = c.fields-fs in
-    search_done f.result c.loop-k.k c.loop-k.invariant.1 (search rules) ∙ first_is (goal.at.returns c).After-fields-fs
+returns c = rw c.in_ok-wrong.was at (first (goal.at.returns c).After-find)
+
+pub returns-in_err-wrong : goal.returns-in_err-wrong
+returns-in_err-wrong c = c.from_residual.ensures ∙ rw c.in_err-wrong.was at (first (goal.at.returns-in_err-wrong c).After-find)

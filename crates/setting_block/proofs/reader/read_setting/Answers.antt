@@ -1,6 +1,6 @@
 -- `setting_block::reader::read_setting` meets its contract: it tests the first three rows in their order, and the verdict on the values tells the others.
 use borrow.Author.Tests.{eq-eqb, ne_eqb}
-use mathlib.Core.Path.{◌≡◌, ap}
+use mathlib.Core.Path.{◌≡◌, ap, ◌∙◌}
 use mathlib.Core.Bool.{not}
 use mathlib.Core.List.{List}
 use Prim.Native.Nat.{ℕ}
@@ -8,13 +8,12 @@ use native.Mathlib.Omega.{arith}
 use lib.ListN.{length, take}
 use Rattle.lists.specs.Tests.{Each, none, ◌&◌}
 use Rattle.refusal.specs.declared.Refusal.{Refusal}
-use Rattle.refusal.specs.declared.Verdict.{Verdict}
-use Rattle.refusal.proofs.Stops.{Passed, here, past}
+use Rattle.refusal.proofs.Stops.{Passed, here, past, told_up}
 use Rattle.setting_block.specs.Layout.{spares}
 use Rattle.setting_block.specs.Calls.{read_rows, Reads}
-use Rattle.setting_block.proofs.ReaderCases.{answer, refused, judged}
+use Rattle.setting_block.proofs.ReaderCases.{refused, judged}
 use Rattle.setting_block.proofs.reader.read_setting.Goals as goal
-use Rattle.setting_block.proofs.reader.read_setting.Goals.{After-verdict_beside-judged, Else-not-checked, Else-not-marked}
+use Rattle.setting_block.proofs.reader.read_setting.Goals.{Else-not-checked, Else-not-marked}
 
 -- the rows passed after each test of a block of 512 bytes
 
@@ -51,21 +50,16 @@ returns-then-not-marked c =
     let at = goal.at.returns-then-not-marked c in
     refused c.args.s.now Refusal.Mark (past 2 _ (passed_2 at.Else-not-checked long) (here (rw (← c.marked.ensures) (ap not c.if-not-marked.true))))
 
--- the answer by the verdict
-answered : (c : After-verdict_beside-judged) → Each Passed (take 3 (read_rows c.args.s.now)) → (r : Verdict) → c.verdict_beside-judged.result ≡ r
-    → Reads c.args.s.now (answer c.setting_at-v.result r)
-answered c p r e =
+pub returns-in_err-verdict_beside : goal.returns-in_err-verdict_beside
+returns-in_err-verdict_beside c =
+    let long : length c.args.s.now ≡ 512 = omega arith in
+    let p = passed_3 (goal.at.returns-in_err-verdict_beside c).Else-not-marked long in
+    told_up c.from_residual.result _ c.from_residual.ensures.1
+    ∙ judged c.args.s.now p _ (rw c.setting_at-v.ensures at (c.in_err-verdict_beside.ensures (spares c.args.s.now) c.spare_fault.ensures))
+
+pub returns : goal.returns
+returns c =
+    let long : length c.args.s.now ≡ 512 = omega arith in
+    let p = passed_3 (goal.at.returns c).Else-not-marked long in
     rw c.setting_at-v.ensures
-    (judged _ p r (rw (c.setting_at-v.ensures, e) at (c.verdict_beside-judged.ensures (spares _) c.spare_fault.ensures)))
-
-pub returns-in-Accepted : goal.returns-in-Accepted
-returns-in-Accepted c =
-    let long : length c.args.s.now ≡ 512 = omega arith in
-    let at = goal.at.returns-in-Accepted c in
-    answered at.After-verdict_beside-judged (passed_3 at.Else-not-marked long) _ c.in-Accepted.is
-
-pub returns-in-Refused : goal.returns-in-Refused
-returns-in-Refused c =
-    let long : length c.args.s.now ≡ 512 = omega arith in
-    let at = goal.at.returns-in-Refused c in
-    answered at.After-verdict_beside-judged (passed_3 at.Else-not-marked long) _ c.in-Refused.is
+    (judged c.args.s.now p _ (rw c.setting_at-v.ensures at (c.in_ok-verdict_beside.ensures (spares c.args.s.now) c.spare_fault.ensures)))
