@@ -20,12 +20,14 @@ use Rattle.page.specs.Events.{new_flags, raised}
 use Rattle.page.specs.Page.{starts_of}
 use Rattle.page.proofs.EventLaws.{no_bit, not_new, raised_none}
 use Rattle.relay.specs.Record.{admissible}
-use Rattle.relay.specs.Calls.{Reply, filling, measured, trip_now, starts_by, flags_now, events_now, backup_now, reply_now, relay_now}
+use Rattle.relay.specs.declared.Answer.{Answer}
+use Rattle.relay.specs.declared.Answer.TheVariants.{Filling, Measured}
+use Rattle.relay.specs.Calls.{trip_now, starts_by, flags_now, events_now, backup_now, reply_now, relay_now}
 use Rattle.relay.specs.CallInput.{trip_after}
 use Rattle.relay.proofs.Admission.{admitted}
 
 module _ (r : Relay) (w : Window) where
-  pub filling_reply : full w ≡ false → ◌≡◌ {A = Outcome Reply} (gives (filling w.fill)) (gives (reply_now r w))
+  pub filling_reply : full w ≡ false → ◌≡◌ {A = Outcome Answer} (gives (Filling w.fill)) (gives (reply_now r w))
   unfolding reply_now
   filling_reply e = rw e
 
@@ -57,9 +59,9 @@ module _ (r : Relay) (w : Window) where
 
     module _ {b : Backup} (after : b ≡ backup_by r.setting w.values r.backup) where
       pub measured_reply :
-          ◌≡◌ {A = Outcome Reply}
+          ◌≡◌ {A = Outcome Answer}
           (gives
-          (measured
+          (Measured
           (record { reading = m.a; latched = t.a.latch })
           (record { reading = m.b; latched = t.b.latch })
           (record { reading = m.c; latched = t.c.latch })

@@ -1,7 +1,8 @@
 -- Starting, sample and reset (§ The order of refusals 5, 6 and 7; § The relay record; § Characteristic and trip).
-use Rattle.std.specs.Prelude.{◌≡◌, Bool, not, ◌&&◌, ◌||◌, cond, List, [], ◌∷◌, ℕ, ◌*◌, leb, eqb, ℤ, pos, nat_abs, length, drop}
+use Rattle.std.specs.Prelude.{◌≡◌, Result, Ok, Err, Bool, not, ◌&&◌, ◌||◌, cond, List, [], ◌∷◌, ◌*◌, leb, eqb, ℤ, pos, nat_abs, length, drop}
 use Rattle.lists.specs.Tests.{each}
 use Rattle.integer.specs.Within.{eq_z}
+use Rattle.refusal.specs.declared.Refusal.{Refusal}
 use Rattle.refusal.specs.Refusals.{Told, told_of, Outcome, gives, declines, by_outcome, Row, ◌when◌, first_of, none_applies, first_refusal}
 use Rattle.refusal.specs.Refusals as Refusals
 use Rattle.setting.specs.declared.Setting.{Setting}
@@ -15,14 +16,13 @@ use Rattle.state.specs.declared.Window.{Window}
 use Rattle.relay.specs.declared.Relay.{Relay}
 use Rattle.relay.specs.declared.Measure.{Measure}
 use Rattle.relay.specs.declared.Answer.{Answer}
-use Rattle.relay.specs.declared.Answer.TheVariants.{Filling, Measured, Refused}
+use Rattle.relay.specs.declared.Answer.TheVariants.{Filling, Measured}
 use Rattle.relay.specs.declared.Sampled.{Sampled}
 use Rattle.relay.specs.declared.Returned.{Returned}
 use Rattle.characteristic.specs.Characteristic.{counts}
 use Rattle.measuring.specs.Measuring.{differential, start, blocked, reading_of}
 use Rattle.state.specs.State.{element_of, per_system, element_after, clear, latches_of, window_with, full}
 use Rattle.overcurrent.specs.declared.Backup.{Backup}
-use Rattle.overcurrent.specs.declared.Trips.{Trips}
 use Rattle.inverse_time.specs.Timers.{idle}
 use Rattle.overcurrent.specs.Ends.{per_end, trips_of}
 use Rattle.overcurrent.specs.Watching.{backup_by}
@@ -59,11 +59,6 @@ sample_rows r xs = (12 when not (admissible r)) ∷ set_rows r.setting xs
 
 -- ---- the sample call
 
--- An accepted set answers Filling with the number held, or Measured (§ The relay record 4).
-pub data Reply : Type 0 where
-  filling : ℕ → Reply
-  measured : (a b c : Measure) (trips : Trips) → Reply
-
 -- the window with the set's matched numbers filed (§ The relay record 3)
 abbrev pub window_after : Relay → List ℤ → Window
 window_after r xs = window_with r.window (numbers r.setting xs)
@@ -86,10 +81,10 @@ measure_now r w l = record { reading = reading_of r.setting w.values l; latched 
 unfoldable pub backup_now : Relay → Window → Backup
 backup_now r w = cond (full w) (backup_by r.setting w.values r.backup) r.backup
 
--- Measured carries these trips, apart from the latches
-unfoldable pub reply_now : Relay → Window → Reply
+-- An accepted set answers Filling with the number held, or Measured (§ The relay record 4), which carries these trips apart from the latches.
+unfoldable pub reply_now : Relay → Window → Answer
 reply_now r w =
-    cond (full w) (measured (measure_now r w sys_a) (measure_now r w sys_b) (measure_now r w sys_c) (trips_of (backup_now r w))) (filling w.fill)
+    cond (full w) (Measured (measure_now r w sys_a) (measure_now r w sys_b) (measure_now r w sys_c) (trips_of (backup_now r w))) (Filling w.fill)
 
 -- ---- the record after it, with the flags that it raises (§ The register page 2)
 
@@ -121,20 +116,19 @@ left_at r told = cond (of_set told) (refused_relay r) r
 
 -- ---- the sample call's answer, and the record that it leaves
 
-abbrev pub sample_reply : Relay → List ℤ → Outcome Reply
+abbrev pub sample_reply : Relay → List ℤ → Outcome Answer
 sample_reply r xs = first_of (sample_rows r xs) (reply_now r (window_after r xs))
 
 abbrev pub sample_relay : Relay → List ℤ → Relay
 sample_relay r xs = by_outcome (sample_reply r xs) (left_at r) (λ reply. relay_now r (window_after r xs))
 
 -- the sample call's answer in the table's terms
-abbrev pub outcome_of : Answer → Outcome Reply
-outcome_of (Filling n) = gives (filling n)
-outcome_of (Measured a b c t) = gives (measured a b c t)
-outcome_of (Refused r) = declines (told_of r)
+abbrev pub outcome_of : {A : Type 0} → Result A Refusal → Outcome A
+outcome_of (Ok a) = gives a
+outcome_of (Err r) = declines (told_of r)
 
 -- an answer and a record
-pub record Gives (o : Outcome Reply) (after : Relay) (s : Sampled) : Type 0 where
+pub record Gives (o : Outcome Answer) (after : Relay) (s : Sampled) : Type 0 where
   pub reply : outcome_of s.answer ≡ o
   pub relay : s.relay ≡ after
 

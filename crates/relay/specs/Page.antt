@@ -1,16 +1,14 @@
 -- Reading and writing the register page, a byte at a time (§ The register page, § The order of refusals 8 and 9).
 use Rattle.std.specs.Prelude.{◌≡◌, Bool, not, ◌&&◌, ◌||◌, cond, List, [], ◌∷◌, ℕ, leb, eqb, get_or}
-use Rattle.refusal.specs.Refusals.{told_of, Outcome, gives, declines, by_outcome, Row, ◌when◌, first_of, first_refusal}
+use Rattle.refusal.specs.Refusals.{Outcome, by_outcome, Row, ◌when◌, first_of, first_refusal}
 use Rattle.refusal.specs.Refusals as Refusals
 use Rattle.page.specs.Events.{written as written_events}
 use Rattle.page.specs.Page.{page, shown}
 use Rattle.relay.specs.declared.Relay.{Relay}
-use Rattle.relay.specs.declared.PageByte.{PageByte}
-use Rattle.relay.specs.declared.PageByte.TheVariants.{Byte, Refused}
 use Rattle.relay.specs.declared.PageRead.{PageRead}
 use Rattle.relay.specs.declared.Returned.{Returned}
 use Rattle.relay.specs.Record.{admissible, with_events}
-use Rattle.relay.specs.Calls.{cleared}
+use Rattle.relay.specs.Calls.{outcome_of, cleared}
 
 -- the page of a record: the latched mask is the record's; other masks and currents are those of the last accepted set, zero unless the window is full
 abbrev pub page_of : Relay → List ℕ
@@ -39,10 +37,6 @@ read_reply r offset = first_of (read_rows r offset) (get_or (page_of r) offset 0
 
 abbrev pub read_relay : Relay → ℕ → Relay
 read_relay r offset = r
-
-abbrev pub outcome_of : PageByte → Outcome ℕ
-outcome_of (Byte n) = gives n
-outcome_of (Refused r) = declines (told_of r)
 
 pub record Reads (r : Relay) (offset : ℕ) (s : PageRead) : Type 0 where
   pub reply : outcome_of s.answer ≡ read_reply r offset

@@ -12,65 +12,37 @@ use refusal::{Refusal, Verdict};
 use setting::Setting;
 
 // Whether a record is one that the calls take: refusal 12.
+#[tactic(auto, unfolding(crate::specs::Record::admissible))]
 pub fn admissible(r: Relay) -> bool
     ensures { result ≡ admissible_of r }
 {
-    let v = r.setting;
-    let w = r.window;
-    let values = w.values;
-    let t = r.trip;
-    if !setting::judging::sound(v) {
-        return false;
-    }
-    if 12 < w.fill {
-        return false;
-    }
-    if !state::numbers_within(&values) {
-        return false;
-    }
-    if !state::counters_within(v.confirm, t) {
-        return false;
-    }
-    if !page::within(r.events) {
-        return false;
-    }
-    overcurrent::within(r.backup)
+    setting::judging::sound(r.setting)
+        && r.window.fill <= 12
+        && state::numbers_within(&r.window.values)
+        && state::counters_within(r.setting.confirm, r.trip)
+        && page::within(r.events)
+        && overcurrent::within(r.backup)
 }
 
 // No sample beyond 32,000.
 pub fn in_reach(set: &[i16]) -> bool
     ensures { result ≡ in_reach set.now }
 {
-    let mut i: usize = 0;
-    while i < set.len() {
-        let x = set[i];
-        if x < -32000 {
-            return false;
-        }
-        if 32000 < x {
-            return false;
-        }
-        i += 1;
-    }
-    true
+    set.iter().all(|x| -32000 <= *x && *x <= 32000)
 }
 
 // Zero at every end that is not in use.
 pub fn unused_zero(ends: u8, set: &[i16]) -> bool
     ensures { result ≡ each (λ x. eq_z x (pos 0)) (drop (3 * ends) set.now) }
 {
-    let mut i: usize = 3 * (ends as usize);
-    while i < set.len() {
-        let x = set[i];
-        if x != 0 {
-            return false;
-        }
-        i += 1;
+    match set.get(3 * usize::from(ends)..) {
+        Some(unused) => unused.iter().all(|x| *x == 0),
+        None => true,
     }
-    true
 }
 
 // Whether a set is accepted on a setting: 14, 10, 11, in this order.
+#[tactic(auto, unfolding(crate::specs::Calls::set_rows))]
 pub fn set_verdict(v: Setting, set: &[i16]) -> Verdict
     ensures { outcome_of result ≡ first_refusal (set_rows v set.now) }
 {

@@ -1,16 +1,14 @@
 // The relay's calls: start, sample and reset. Sample and reset take the record by value and hand it back beside the answer.
 
-ghost use Rattle.std.specs.Prelude.{◌≡◌, cond};
+ghost use Rattle.std.specs.Prelude.{◌≡◌};
 ghost use Rattle.refusal.specs.declared.Verdict.TheVariants.{Refused};
-ghost use Rattle.refusal.specs.Refusals.{gives, declines, told_of};
+ghost use Rattle.refusal.specs.Refusals.{gives};
 ghost use Rattle.relay.specs.Calls.{reply_now, relay_now, refused_relay, cleared as cleared_of, Gives, Samples, Resets, Starts};
 ghost use Rattle.relay.specs.CallInput.{element_by, trip_after, FillingNow, FullNow};
 
 use crate::{Answer, Measure, Relay, Returned, Sampled, accepting, starting};
 use bits::Bits;
 use measuring::{Reading, Readings};
-use overcurrent::Backup;
-use page::Events;
 use refusal::{Refusal, Verdict};
 use setting::{Setting, factors};
 use state::{Element, Trip, Window};
@@ -37,35 +35,24 @@ pub fn trip_after(v: Setting, m: Readings, t: Trip) -> Trip
     }
 }
 
-// The record of the same setting with other parts: the window, counters and latches, events, overcurrent sums and trips.
-fn renewed(r: Relay, w: Window, trip: Trip, events: Events, backup: Backup) -> Relay
-    ensures { result ≡ record { setting = r.setting; window = w; trip = trip; events = events; backup = backup } }
-{
-    let v = r.setting;
-    Relay {
-        setting: v,
-        window: w,
-        trip: trip,
-        events: events,
-        backup: backup,
-    }
-}
-
 // A set filed in a window that is not full yet: the number held, counters cleared; overcurrent sums stay.
 fn filling(r: Relay, w: Window) -> Sampled
     requires { FillingNow r w }
     ensures { Gives (gives (reply_now r w)) (relay_now r w) result }
 {
-    let v = r.setting;
-    let t = r.trip;
+    let confirm = r.setting.confirm;
     let trip = Trip {
-        a: state::element_after(v.confirm, false, t.a),
-        b: state::element_after(v.confirm, false, t.b),
-        c: state::element_after(v.confirm, false, t.c),
+        a: state::element_after(confirm, false, r.trip.a),
+        b: state::element_after(confirm, false, r.trip.b),
+        c: state::element_after(confirm, false, r.trip.c),
     };
     Sampled {
-        answer: Answer::Filling(w.fill),
-        relay: renewed(r, w, trip, r.events, r.backup),
+        answer: Ok(Answer::Filling(w.fill)),
+        relay: Relay {
+            window: w,
+            trip,
+            ..r
+        },
     }
 }
 
@@ -75,55 +62,48 @@ fn measured(r: Relay, w: Window) -> Sampled
     ensures { Gives (gives (reply_now r w)) (relay_now r w) result }
 {
     let v = r.setting;
-    let t = r.trip;
-    let values = w.values;
-    let full = overcurrent::watching::measured(v, &values, r.backup);
+    let full = overcurrent::watching::measured(v, &w.values, r.backup);
     let m = full.readings;
     let backup = full.backup;
-    let trip = trip_after(v, m, t);
-    let events = page::noting::events_after(v, r.window, t, r.events, m, trip);
-    let in_a = m.a;
-    let in_b = m.b;
-    let in_c = m.c;
+    let trip = trip_after(v, m, r.trip);
+    let events = page::noting::events_after(v, r.window, r.trip, r.events, m, trip);
     let of_a = Measure {
-        reading: in_a,
+        reading: m.a,
         latched: trip.a.latch,
     };
     let of_b = Measure {
-        reading: in_b,
+        reading: m.b,
         latched: trip.b.latch,
     };
     let of_c = Measure {
-        reading: in_c,
+        reading: m.c,
         latched: trip.c.latch,
     };
     Sampled {
-        answer: Answer::Measured(of_a, of_b, of_c, overcurrent::tripped(backup)),
-        relay: renewed(r, w, trip, events, backup),
+        answer: Ok(Answer::Measured(of_a, of_b, of_c, overcurrent::tripped(backup))),
+        relay: Relay {
+            window: w,
+            trip,
+            events,
+            backup,
+            ..r
+        },
     }
 }
 
-// A refusal of a sample call, with the record as before but for the flag of a refused set, where it is one.
-fn refused(r: Relay, why: Refusal, set: bool) -> Sampled
-    ensures { Gives (declines (told_of why)) (cond set (refused_relay r) r) result }
+// A refused set: the record as before but for its flag.
+#[tactic(auto, unfolding(crate::specs::Calls::refused_relay))]
+fn flagged(r: Relay) -> Relay
+    ensures { result ≡ refused_relay r }
 {
-    if !set {
-        return Sampled {
-            answer: Answer::Refused(why),
-            relay: r,
-        };
-    }
     let flag = Bits {
         b0: false,
         b1: false,
         b2: true,
     };
-    let events = page::raised(flag, r.events);
-    let mut left = r;
-    left.events = events;
-    Sampled {
-        answer: Answer::Refused(why),
-        relay: left,
+    Relay {
+        events: page::raised(flag, r.events),
+        ..r
     }
 }
 
@@ -138,13 +118,15 @@ pub fn declined(r: Relay, why: Refusal) -> Returned
 }
 
 // The record with counters, latches, overcurrent sums and their trips cleared.
+#[tactic(auto, unfolding(crate::specs::Calls::cleared))]
 pub fn cleared(r: Relay) -> Relay
     ensures { result ≡ cleared_of r }
 {
-    let w = r.window;
-    let trip = starting::untripped();
-    let backup = overcurrent::untripped();
-    renewed(r, w, trip, r.events, backup)
+    Relay {
+        trip: starting::untripped(),
+        backup: overcurrent::untripped(),
+        ..r
+    }
 }
 
 impl Relay {
@@ -154,7 +136,7 @@ impl Relay {
     {
         let verdict = setting::judging::start_verdict(v);
         Returned {
-            verdict: verdict,
+            verdict,
             relay: starting::fresh(starting::started_on(v, verdict)),
         }
     }
@@ -164,22 +146,29 @@ impl Relay {
         ensures { Samples self set.now result }
     {
         if !accepting::admissible(self) {
-            return refused(self, Refusal::Record, false);
+            return Sampled {
+                answer: Err(Refusal::Record),
+                relay: self,
+            };
         }
         let v = self.setting;
         if let Verdict::Refused(why) = accepting::set_verdict(v, set) {
-            return refused(self, why, true);
+            return Sampled {
+                answer: Err(why),
+                relay: flagged(self),
+            };
         }
-        let old = self.window;
         let weights = matching::weights(v, factors::factors(v));
-        let w = state::place(old, matching::numbers(v, weights, set));
+        let w = state::place(self.window, matching::numbers(v, weights, set));
         if w.fill < 12 {
-            return filling(self, w);
+            filling(self, w)
+        } else {
+            measured(self, w)
         }
-        measured(self, w)
     }
 
     // Clears counters, latches, overcurrent sums and their trips, and not the window: 12.
+    #[tactic(auto, unfolding(crate::specs::Calls::reset_rows))]
     pub fn reset(self) -> Returned
         ensures { Resets self result }
     {

@@ -31,18 +31,18 @@ pub struct Measure {
     pub latched: bool,
 }
 
-// The answer to a sample call: the number of sets held while the window fills; once it is full the three systems, and which ends' overcurrent elements have
-// tripped; or the refusal.
+// What an accepted set is answered with: the number of sets held while the window fills; once it is full the three systems, and which ends' overcurrent
+// elements have tripped.
 #[derive(Clone, Copy)]
 pub enum Answer {
     Filling(u8),
     Measured(Measure, Measure, Measure, Trips),
-    Refused(Refusal),
 }
 
+// The answer to a sample call, or the refusal, and the record that comes back.
 #[derive(Clone, Copy)]
 pub struct Sampled {
-    pub answer: Answer,
+    pub answer: Result<Answer, Refusal>,
     pub relay: Relay,
 }
 
@@ -53,15 +53,9 @@ pub struct Returned {
     pub relay: Relay,
 }
 
-// The answer to a read of the register page: the byte, or the refusal.
-#[derive(Clone, Copy)]
-pub enum PageByte {
-    Byte(u8),
-    Refused(Refusal),
-}
-
+// The answer to a read of the register page, the byte or the refusal, and the record that comes back.
 #[derive(Clone, Copy)]
 pub struct PageRead {
-    pub answer: PageByte,
+    pub answer: Result<u8, Refusal>,
     pub relay: Relay,
 }

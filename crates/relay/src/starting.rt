@@ -75,21 +75,18 @@ pub fn untripped() -> Trip
 }
 
 // A fresh relay of setting values.
+#[tactic(auto, unfolding(crate::specs::Record::fresh))]
 pub fn fresh(v: Setting) -> Relay
     ensures { result ≡ fresh_of v }
 {
-    let window = Window {
-        values: [0i32; 144],
-        fill: 0,
-    };
-    let trip = untripped();
-    let events = Events { flags: 0, mask: 0 };
-    let backup = overcurrent::untripped();
     Relay {
         setting: v,
-        window: window,
-        trip: trip,
-        events: events,
-        backup: backup,
+        window: Window {
+            values: [0; 144],
+            fill: 0,
+        },
+        trip: untripped(),
+        events: Events { flags: 0, mask: 0 },
+        backup: overcurrent::untripped(),
     }
 }

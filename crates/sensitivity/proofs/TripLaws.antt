@@ -22,8 +22,10 @@ use Rattle.state.specs.Rows.{InARow}
 use Rattle.state.proofs.RowLaws.{at_older}
 use Rattle.overcurrent.specs.Ends.{trips_of}
 use Rattle.relay.specs.declared.Measure.{Measure}
+use Rattle.relay.specs.declared.Answer.{Answer}
+use Rattle.relay.specs.declared.Answer.TheVariants.{Filling, Measured}
 use Rattle.relay.specs.declared.Relay.{Relay}
-use Rattle.relay.specs.Calls.{accepted, Reply, filling, measured, counting, window_after, measure_now, backup_now, reply_now, relay_now, sample_reply}
+use Rattle.relay.specs.Calls.{accepted, counting, window_after, measure_now, backup_now, reply_now, relay_now, sample_reply}
 use Rattle.relay.specs.Page.{resets}
 use Rattle.relay.specs.Lists.{Call, sample, reset, read, write, after, Every}
 use Rattle.relay.proofs.Kept.{Valid, Step, files, declines, step, valid_after}
@@ -58,8 +60,8 @@ module _ (v : Setting) (Fault : System → List ℤ → Measure → Type 0) (sur
   unfolding reply_now
   measured_counts r w same m = by (full w) refl m
     where
-      answer : Bool → Reply
-      answer b = cond b (measured (measure_now r w sys_a) (measure_now r w sys_b) (measure_now r w sys_c) (trips_of (backup_now r w))) (filling w.fill)
+      answer : Bool → Answer
+      answer b = cond b (Measured (measure_now r w sys_a) (measure_now r w sys_b) (measure_now r w sys_c) (trips_of (backup_now r w))) (Filling w.fill)
 
       by : (b : Bool) → full w ≡ b → MeasuredAs (Fault l w.values) l (gives (answer b)) → counting v w l ≡ true
       by true e m = rw e (sure l w.values _ (reading_is r w same l) m)

@@ -8,9 +8,11 @@ use Rattle.matching.specs.Sets.{System, sys_a, sys_b, sys_c}
 use Rattle.characteristic.specs.Characteristic.{second_on, fifth_on}
 use Rattle.measuring.specs.OneEnd.{FedFrom}
 use Rattle.relay.specs.declared.Measure.{Measure}
+use Rattle.relay.specs.declared.Answer.{Answer}
+use Rattle.relay.specs.declared.Answer.TheVariants.{Filling, Measured}
 use Rattle.relay.specs.declared.Relay.{Relay}
 use Rattle.relay.specs.Record.{fresh}
-use Rattle.relay.specs.Calls.{Reply, filling, measured, sample_reply}
+use Rattle.relay.specs.Calls.{sample_reply}
 use Rattle.relay.specs.Page.{resets}
 use Rattle.relay.specs.Lists.{Call, sample, reset, read, write, after, run, Every}
 use Rattle.stability.specs.Trips.{element_at}
@@ -40,9 +42,9 @@ of_system a b c sys_b = b
 of_system a b c sys_c = c
 
 -- the answer is Measured, and the system's measure in it is as F says; Filling and a refusal are not
-abbrev pub MeasuredAs : (F : Measure → Type 0) → System → Outcome Reply → Type 0
-MeasuredAs F l (gives (measured a b c trips)) = F (of_system a b c l)
-MeasuredAs F l (gives (filling n)) = ⊥
+abbrev pub MeasuredAs : (F : Measure → Type 0) → System → Outcome Answer → Type 0
+MeasuredAs F l (gives (Measured a b c trips)) = F (of_system a b c l)
+MeasuredAs F l (gives (Filling n)) = ⊥
 MeasuredAs F l (declines told) = ⊥
 
 -- a sample call so answered, with the window that its record then holds; no other call

@@ -7,9 +7,10 @@ use Prim.Native.Nat.{ℕ}
 use lib.IntN.{ℤ}
 use Rattle.refusal.specs.Refusals.{Outcome, gives, declines, by_outcome}
 use Rattle.page.specs.declared.Events.{Events}
+use Rattle.relay.specs.declared.Answer.{Answer}
 use Rattle.relay.specs.declared.Relay.{Relay}
 use Rattle.relay.specs.Record.{admissible, with_events}
-use Rattle.relay.specs.Calls.{Reply, window_after, backup_now, reply_now, relay_now, refused_relay, of_set, left_at, sample_reply, sample_relay}
+use Rattle.relay.specs.Calls.{window_after, backup_now, reply_now, relay_now, refused_relay, of_set, left_at, sample_reply, sample_relay}
 use Rattle.relay.specs.Calls.{reset_rows, cleared, reset_reply, reset_relay}
 use Rattle.relay.specs.Page.{write_rows, resets, write_reply, write_relay}
 use Rattle.relay.specs.Lists.{Call, sample, reset, read, write, after, run}
@@ -35,7 +36,7 @@ module _ (r : Relay) (e : Events) (p : admissible r ≡ true) (q : admissible (w
       refused true = record { setting = refl; window = refl; trip = refl; backup = refl }
       refused false = record { setting = refl; window = refl; trip = refl; backup = refl }
 
-      by : (o : Outcome Reply) → Alike (by_outcome o (left_at r) (λ a. relay_now r (window_after r xs))) (by_outcome o (left_at s) (λ a. relay_now s (window_after r xs)))
+      by : (o : Outcome Answer) → Alike (by_outcome o (left_at r) (λ a. relay_now r (window_after r xs))) (by_outcome o (left_at s) (λ a. relay_now s (window_after r xs)))
       by (gives a) = record { setting = refl; window = refl; trip = refl; backup = refl }
       by (declines told) = refused (of_set told)
 

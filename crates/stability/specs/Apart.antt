@@ -1,9 +1,10 @@
 -- Reads and writes among other calls (§ The register page 5).
 use Rattle.std.specs.Prelude.{◌≡◌, Bool, true, false, cond, List, [], ◌∷◌, ℕ}
 use Rattle.refusal.specs.Refusals.{Outcome}
+use Rattle.relay.specs.declared.Answer.{Answer}
 use Rattle.relay.specs.declared.Relay.{Relay}
 use Rattle.relay.specs.Record.{admissible}
-use Rattle.relay.specs.Calls.{Reply, sample_reply, reset_reply}
+use Rattle.relay.specs.Calls.{sample_reply, reset_reply}
 use Rattle.relay.specs.Page.{resets, read_reply, write_reply}
 use Rattle.relay.specs.Lists.{Call, sample, reset, read, write, after, run}
 
@@ -20,7 +21,7 @@ struck (c ∷ cs) = cond (stays c) (c ∷ struck cs) (struck cs)
 
 -- what a call answers
 pub data Told : Type 0 where
-  sampled : Outcome Reply → Told
+  sampled : Outcome Answer → Told
   done : Outcome (Unit {0}) → Told
   byte : Outcome ℕ → Told
 

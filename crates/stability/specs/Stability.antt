@@ -10,10 +10,12 @@ use Rattle.matching.specs.Sets.{System}
 use Rattle.matching.specs.Bank.{Healthy}
 use Rattle.amplitude.specs.Peak.{peak}
 use Rattle.relay.specs.declared.Measure.{Measure}
+use Rattle.relay.specs.declared.Answer.{Answer}
+use Rattle.relay.specs.declared.Answer.TheVariants.{Filling, Measured}
 use Rattle.relay.specs.declared.Relay.{Relay}
 use Rattle.state.specs.State.{element_of}
 use Rattle.relay.specs.Record.{fresh}
-use Rattle.relay.specs.Calls.{accepted, Reply, filling, measured, sample_reply, reset_reply}
+use Rattle.relay.specs.Calls.{accepted, sample_reply, reset_reply}
 use Rattle.relay.specs.Page.{read_reply, write_reply}
 use Rattle.relay.specs.Lists.{Call, sample, reset, read, write, Every}
 
@@ -30,9 +32,9 @@ pub record Calm (v : Setting) (m : Measure) : Type 0 where
   pub no_latch : m.latched ≡ false
   pub small_d : m.reading.d ≤ peak v.ends
 
-abbrev pub CalmReply : Setting → Reply → Type 0
-CalmReply v (filling n) = Unit {0}
-CalmReply v (measured a b c trips) = Calm v a × Calm v b × Calm v c
+abbrev pub CalmReply : Setting → Answer → Type 0
+CalmReply v (Filling n) = Unit {0}
+CalmReply v (Measured a b c trips) = Calm v a × Calm v b × Calm v c
 
 -- refusal 12 does not arise, and something holds of what is given
 abbrev pub Without12 : {A : Type 0} → (OfGiven : A → Type 0) → Outcome A → Type 0

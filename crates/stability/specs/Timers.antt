@@ -13,9 +13,11 @@ use Rattle.overcurrent.specs.Watching.{largest}
 use Rattle.inverse_time.specs.Rows.{grown, Reached}
 use Rattle.state.specs.declared.Window.{Window}
 use Rattle.state.specs.State.{full}
+use Rattle.relay.specs.declared.Answer.{Answer}
+use Rattle.relay.specs.declared.Answer.TheVariants.{Filling, Measured}
 use Rattle.relay.specs.declared.Relay.{Relay}
 use Rattle.relay.specs.Record.{fresh}
-use Rattle.relay.specs.Calls.{accepted, window_after, Reply, filling, measured, sample_reply}
+use Rattle.relay.specs.Calls.{accepted, window_after, sample_reply}
 use Rattle.relay.specs.Page.{resets}
 use Rattle.relay.specs.Lists.{Call, sample, reset, read, write, run, Every}
 use Rattle.stability.specs.Lists.{filing, last12, window_of}
@@ -84,9 +86,9 @@ BelowPickUp v r (write offset byte) = Unit {0}
 abbrev pub Unsummed : Relay → Type 0
 Unsummed r = r.backup ≡ per_end (λ z. idle)
 
-abbrev pub UntrippedReply : Outcome Reply → Type 0
-UntrippedReply (gives (filling n)) = Unit {0}
-UntrippedReply (gives (measured a b c trips)) = trips ≡ trips_of (per_end (λ z. idle))
+abbrev pub UntrippedReply : Outcome Answer → Type 0
+UntrippedReply (gives (Filling n)) = Unit {0}
+UntrippedReply (gives (Measured a b c trips)) = trips ≡ trips_of (per_end (λ z. idle))
 UntrippedReply (declines told) = Unit {0}
 
 abbrev pub UntrippedCall : Relay → Call → Type 0

@@ -26,13 +26,13 @@ use Rattle.relay.proofs.Relay.sample.Goals.{After-place-w, In_default}
 pub returns-then-not-admissible : goal.returns-then-not-admissible
 unfolding sample_rows
 returns-then-not-admissible c =
-    declined c.args.self c.args.set.now (here (rw (← c.admissible.ensures) (rw c.if-not-admissible.true))) c.refused.ensures
+    declined c.args.self c.args.set.now (here (rw (← c.admissible.ensures) (rw c.if-not-admissible.true))) (record { reply = refl; relay = refl })
 
 pub returns-in-Refused : goal.returns-in-Refused
 returns-in-Refused c =
     let r = c.args.self in
     let ok : admissible r ≡ true = sym c.admissible.ensures ∙ c.if-not-admissible.false in
-    set_declined r.setting r c.args.set.now ok refl (sym c.set_verdict.ensures ∙ ap outcome_of c.in-Refused.is) c.refused-in-Refused.ensures
+    set_declined r.setting r c.args.set.now ok refl (sym c.set_verdict.ensures ∙ ap outcome_of c.in-Refused.is) (record { reply = refl; relay = c.flagged.ensures })
 
 -- where the set is accepted
 module _ (c : In_default) where
@@ -88,7 +88,7 @@ module _ (c : After-place-w) where
 
 pub filling-requires : goal.filling-requires
 filling-requires c =
-    let less : c.place-w.result.fill < 12 = omega (arith, c.if-w-lt12.true) in
+    let less : c.place-w.result.fill < 12 = omega arith in
     record { admitted = ok (goal.at.filling-requires c).After-place-w; unfilled = ne_eqb c.place-w.result.fill 12 (λ e. omega arith) }
 
 pub returns-then-w-lt12 : goal.returns-then-w-lt12
@@ -98,7 +98,7 @@ pub measured-requires : goal.measured-requires
 measured-requires c =
     let n = c.place-w.result.fill in
     let d = (goal.at.measured-requires c).After-place-w in
-    let more : 12 ≤ n = omega (arith, c.if-w-lt12.false) in
+    let more : 12 ≤ n = omega arith in
     let most = at_most d in
     record {
       admitted = ok d;
@@ -109,5 +109,5 @@ measured-requires c =
           };
     }
 
-pub returns : goal.returns
-returns c = answered (goal.at.returns c).After-place-w c.measured.ensures
+pub returns-else-w-lt12 : goal.returns-else-w-lt12
+returns-else-w-lt12 c = answered (goal.at.returns-else-w-lt12 c).After-place-w c.measured.ensures

@@ -1,40 +1,22 @@
--- `relay::accepting::unused_zero` meets its contract. The loop's invariant: the samples from i on are zero if and only if all those of the unused
--- ends are.
-use borrow.Author.Rules.{rules}
-use lib.ListN.{get_or}
-use lib.IntN.{pos}
-use Rattle.lists.proofs.Loops.{each_stop, each_more, each_done}
-use Rattle.state.proofs.Scans.{not_zero, is_zero}
+use Rattle.std.proofs.Common.{ℕ, ◌-◌, rules, tests, pos, refl, ap, Bool, List, [], ◌∷◌, ◌≡◌, ◌*◌, take, drop, length, ◌&&◌, length-drop}
+use Rattle.std.specs.List.{list_all}
+use Rattle.std.proofs.Math.Seq.{take-length}
+use Rattle.std.proofs.lemmas.Iterator.{YieldsList-from_slice}
+use Rattle.std.proofs.lemmas.Iterator.Search.{all_from_yields_List}
+use Rattle.lists.specs.Tests.{each}
+use Rattle.integer.specs.Within.{eq_z}
 use Rattle.relay.proofs.accepting.unused_zero.Goals as goal
-use Rattle.relay.proofs.accepting.unused_zero.Invariants.{zero?}
 
-pub overflow_mul-i : goal.overflow_mul-i
-overflow_mul-i c = search rules
+each_all : {A : Type 0} (t : A → Bool) (l : List A) → each t l ≡ list_all t l
+each_all t [] = refl
+each_all t (a ∷ l) = ap (λ (b : Bool). t a && b) (each_all t l)
 
-pub loop-i-init : goal.loop-i-init
-loop-i-init c = search rules
+to_end : {A : Type 0} (n : ℕ) (l : List A) → take (length l - n) (drop n l) ≡ drop n l
+to_end n l = rw (← (length-drop n l)) (take-length (drop n l))
 
-pub offset_bounds-set-i : goal.offset_bounds-set-i
-offset_bounds-set-i c = search rules
-
-pub bounds-set-i : goal.bounds-set-i
-bounds-set-i c = search rules
-
-pub returns-then-x-ne0 : goal.returns-then-x-ne0
-returns-then-x-ne0 c =
-    let x = get_or c.args.set.now c.loop-i.i (pos 0) in
-    each_stop zero? _ _ c.loop-i.invariant c.loop-i-test.true (pos 0) (not_zero x c.if-x-ne0.true)
-
-pub overflow_add-i : goal.overflow_add-i
-overflow_add-i c = search rules
-
-pub loop-i-smaller : goal.loop-i-smaller
-loop-i-smaller c = search rules
-
-pub loop-i-preserved : goal.loop-i-preserved
-loop-i-preserved c =
-    let x = get_or c.args.set.now c.loop-i.i (pos 0) in
-    each_more zero? _ _ c.loop-i.invariant c.loop-i-test.true (pos 0) (is_zero x c.x-1.given c.if-x-ne0.false)
-
-pub returns : goal.returns
-returns c = each_done zero? _ _ c.loop-i.invariant c.loop-i-test.false
+pub returns-in-Some : goal.returns-in-Some
+unfolding eq_z
+returns-in-Some c =
+    let xs = c.args.set.now in
+    let e : drop (3 * c.args.ends) xs ≡ c.in-Some.unused.now = cc (c.from.ensures, c.in-Some.ensures.lookup.0.2, to_end (3 * c.args.ends) xs) in
+    rw (each_all, e) (all_from_yields_List (λ x. eq_z x (pos 0)) _ _ c.all.result c.all.ensures.ran (YieldsList-from_slice c.in-Some.unused.now cc) (λ x b q k. search (rules, tests)))
