@@ -1,7 +1,7 @@
 // Calls on the register page: the reads and writes of a page block, and the whole page in one line.
 
 use programs::{print, print_field};
-use relay::{PageByte, Relay};
+use relay::Relay;
 
 // A call on the register page: a read at an offset, or a write of a byte there.
 #[derive(Clone, Copy)]
@@ -27,8 +27,8 @@ fn page_call(relay: Relay, call: PageCall) -> Relay {
         PageCall::Read(offset) => {
             let done = relay.read(offset);
             match done.answer {
-                PageByte::Byte(b) => print(format_args!("byte {b}\n")),
-                PageByte::Refused(r) => programs::print_refused(r),
+                Ok(b) => print(format_args!("byte {b}\n")),
+                Err(r) => programs::print_refused(r),
             }
             done.relay
         }
@@ -54,8 +54,8 @@ pub fn page_block(start: Relay, block: &[u8; 512]) -> Relay {
 fn view_byte(relay: Relay, offset: usize) -> Relay {
     let done = relay.read(offset);
     match done.answer {
-        PageByte::Byte(b) => print_field(b),
-        PageByte::Refused(r) => print(format_args!(" refused {}", refusal::number(r))),
+        Ok(b) => print_field(b),
+        Err(r) => print(format_args!(" refused {}", u8::from(r))),
     }
     done.relay
 }

@@ -5,7 +5,7 @@
 ghost use Rattle.std.specs.Prelude.{◌+◌, ◌<◌, length};
 
 use measuring::Reading;
-use refusal::{Refusal, Verdict};
+use refusal::Refusal;
 use std::fmt::{self, Display, Write};
 
 // Standard output, to which text is written in pieces. A piece that fails holds back none of those after it.
@@ -55,7 +55,7 @@ pub fn end_line() {
 
 // Writes the rest of a line: the number of a refusal, and with 5 the offset.
 pub fn print_told(r: Refusal) {
-    print_field(refusal::number(r));
+    print_field(u8::from(r));
     if let Refusal::Field(offset) = r {
         print_field(offset);
     }
@@ -69,21 +69,21 @@ pub fn print_refused(r: Refusal) {
 }
 
 // Writes the rest of a line: 0, or what a refusal tells.
-pub fn print_verdict(v: Verdict) {
+pub fn print_verdict(v: Result<(), Refusal>) {
     match v {
-        Verdict::Accepted => print(" 0\n"),
-        Verdict::Refused(r) => print_told(r),
+        Ok(()) => print(" 0\n"),
+        Err(r) => print_told(r),
     }
 }
 
 // Writes the line of a call that answers with no value: a word of its own where it is done, or the refusal.
-pub fn print_done(v: Verdict, word: &[u8]) {
+pub fn print_done(v: Result<(), Refusal>, word: &[u8]) {
     match v {
-        Verdict::Accepted => {
+        Ok(()) => {
             io::write_all(1, word);
             end_line();
         }
-        Verdict::Refused(r) => print_refused(r),
+        Err(r) => print_refused(r),
     }
 }
 

@@ -2,6 +2,7 @@
 
 use overcurrent::{Backup, Trips};
 use programs::{print, print_field, print_flag};
+use refusal::Refusal;
 use relay::{Answer, Measure};
 
 // The four trips.
@@ -25,10 +26,10 @@ fn print_measure(m: Measure) {
 }
 
 // The line of an answer: F and the number of sets held; M, the three systems, the four trips and sums; or the refusal.
-pub fn print_answer(answer: Answer, sums: Backup) {
+pub fn print_answer(answer: Result<Answer, Refusal>, sums: Backup) {
     match answer {
-        Answer::Filling(n) => print(format_args!("F {n}\n")),
-        Answer::Measured(a, b, c, t) => {
+        Ok(Answer::Filling(n)) => print(format_args!("F {n}\n")),
+        Ok(Answer::Measured(a, b, c, t)) => {
             print("M");
             for m in [a, b, c] {
                 print_measure(m);
@@ -37,6 +38,6 @@ pub fn print_answer(answer: Answer, sums: Backup) {
             print_sums(sums);
             programs::end_line();
         }
-        Answer::Refused(r) => programs::print_refused(r),
+        Err(r) => programs::print_refused(r),
     }
 }
