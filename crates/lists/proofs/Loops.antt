@@ -8,7 +8,7 @@ use Rattle.lists.specs.Tests.{each}
 use Rattle.lists.proofs.Places.{drop_next}
 
 -- a loop that returns false at the first element that fails the test t, and true at the end: what is left gives the answer r
-module _ {ℓ} {A : Type ℓ} (t : A → Bool) (s : List A) (i : ℕ) {r : Bool} (inv : each t (drop i s) ≡ r) where
+module _ {A : Type 0} (t : A → Bool) (s : List A) (i : ℕ) {r : Bool} (inv : each t (drop i s) ≡ r) where
   module _ (h : i < length s) (d : A) where
     here : r ≡ (t (get_or s i d) && each t (drop (i + 1) s))
     here = sym inv ∙ ap (each t) (drop_next s i d h)

@@ -64,7 +64,7 @@ pub each-++ : {A : Type 0} (t : A → Bool) (l m : List A) → each t (l ++ m) �
 each-++ t [] m = refl
 each-++ t (a ∷ l) m = rw (each-++ t l m) (sym (and_assoc (t a) (each t l) (each t m)))
 
-pub each_up_to {ℓ} : {A : Type ℓ} (t : A → Bool) (n : ℕ) (f : ℕ → A) → T (each t (up_to n f)) → (k : ℕ) → k < n → T (t (f k))
+pub each_up_to : {A : Type 0} (t : A → Bool) (n : ℕ) (f : ℕ → A) → T (each t (up_to n f)) → (k : ℕ) → k < n → T (t (f k))
 unfolding up_to
 each_up_to t zero f h k l = absurd (omega arith)
 each_up_to t (suc n) f h zero l = (split (t (f zero)) (each t (up_to n (λ i. f (suc i)))) h).0

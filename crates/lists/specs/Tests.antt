@@ -1,5 +1,6 @@
 -- Tests that compute: of a list of facts, of every number below a bound, of every element of a list.
 use Rattle.std.specs.Prelude.{Bool, true, ◌&&◌, List, [], ◌∷◌, ℕ, zero, suc}
+use Rattle.std.specs.List.{list_all}
 
 -- each of the tests
 abbrev pub hold : List Bool → Bool
@@ -11,10 +12,9 @@ abbrev pub every : ℕ → (ℕ → Bool) → Bool
 every zero t = true
 every (suc n) t = t zero && every n (λ k. t (suc k))
 
--- the test of each element
-abbrev pub each {ℓ} : {A : Type ℓ} → (A → Bool) → List A → Bool
-each t [] = true
-each t (a ∷ l) = t a && each t l
+-- the test of each element, which an iterator's `all` gives
+abbrev pub each : {A : Type 0} → (A → Bool) → List A → Bool
+each t l = list_all t l
 
 -- S holds of each element
 infixr 5 ◌&◌

@@ -1,11 +1,11 @@
 -- Refusal 12: from the list of tests to each of them, and back.
 use mathlib.Core.Path.{◌≡◌}
-use mathlib.Core.Bool.{Bool, true, false}
+use mathlib.Core.Bool.{Bool, true}
 use Prim.Native.Nat.{ℕ}
 use lib.Dec.{T}
-use lib.ListN.{get_or, take}
+use lib.ListN.{get_or}
 use Rattle.lists.specs.Tests.{Each}
-use Rattle.lists.proofs.TestLaws.{hold_at, hold_of, hold_not, hold_last, is_true}
+use Rattle.lists.proofs.TestLaws.{hold_at, hold_of, is_true}
 use Rattle.relay.specs.declared.Relay.{Relay}
 use Rattle.relay.specs.Record.{admissions, admissible}
 
@@ -21,12 +21,3 @@ module _ (r : Relay) where
   pub admissible_of_lem : Each T (admissions r) → admissible r ≡ true
   unfolding admissible
   admissible_of_lem h = is_true (hold_of h)
-
-  -- one test that fails; and the last, where those before it hold
-  pub inadmissible : (k : ℕ) → get_or (admissions r) k true ≡ false → false ≡ admissible r
-  unfolding admissible
-  inadmissible = hold_not (admissions r)
-
-  pub last_admits : Each T (take 5 (admissions r)) → get_or (admissions r) 5 true ≡ admissible r
-  unfolding admissible
-  last_admits h = hold_last (take 5 (admissions r)) h _

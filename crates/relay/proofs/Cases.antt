@@ -10,7 +10,7 @@ use borrow.Author.Tests.{leb-true, eqb-true, ne_eqb}
 use lib.IntN.{ℤ}
 use lib.ListN.{get_or}
 use Rattle.lists.proofs.TestLaws.{split, is_true}
-use Rattle.refusal.specs.declared.Verdict.{Verdict}
+use Rattle.std.specs.Prelude.{Ok}
 use Rattle.refusal.specs.Refusals.{Told, Outcome, gives, declines, by_outcome, ◌when◌, first_of, first_refusal, done, outcome_of}
 use Rattle.refusal.proofs.Stops.{Stops, Stopped, stops_declines, first_of_values, none_gives, stopped}
 use Rattle.setting.specs.declared.Setting.{Setting}
@@ -30,7 +30,7 @@ pub record Accepted (v : Setting) (r : Relay) : Type 0 where
   pub given : start_reply v ≡ done
   pub relay : r ≡ fresh v
 
-pub start_accepted : {v : Setting} {s : Returned} → Starts v s → s.verdict ≡ Verdict.Accepted → Accepted v s.relay
+pub start_accepted : {v : Setting} {s : Returned} → Starts v s → s.verdict ≡ Ok (tt {0}) → Accepted v s.relay
 start_accepted {v} s e =
     let o : start_reply v ≡ done = sym s.reply ∙ ap outcome_of e in
     record { given = o; relay = rw o at s.relay }

@@ -1,10 +1,8 @@
 -- Starting, sample and reset (§ The order of refusals 5, 6 and 7; § The relay record; § Characteristic and trip).
-use Rattle.std.specs.Prelude.{◌≡◌, Result, Ok, Err, Bool, not, ◌&&◌, ◌||◌, cond, List, [], ◌∷◌, ◌*◌, leb, eqb, ℤ, pos, nat_abs, length, drop}
+use Rattle.std.specs.Prelude.{◌≡◌, Bool, not, ◌&&◌, ◌||◌, cond, List, [], ◌∷◌, ◌*◌, leb, eqb, ℤ, pos, nat_abs, length, drop}
 use Rattle.lists.specs.Tests.{each}
 use Rattle.integer.specs.Within.{eq_z}
-use Rattle.refusal.specs.declared.Refusal.{Refusal}
-use Rattle.refusal.specs.Refusals.{Told, told_of, Outcome, gives, declines, by_outcome, Row, ◌when◌, first_of, none_applies, first_refusal}
-use Rattle.refusal.specs.Refusals as Refusals
+use Rattle.refusal.specs.Refusals.{Told, Outcome, outcome_of, by_outcome, Row, ◌when◌, first_of, none_applies, first_refusal}
 use Rattle.setting.specs.declared.Setting.{Setting}
 use Rattle.setting.specs.Values.{start_rows}
 pub use Rattle.setting.specs.Worked.{blank}
@@ -122,11 +120,6 @@ sample_reply r xs = first_of (sample_rows r xs) (reply_now r (window_after r xs)
 abbrev pub sample_relay : Relay → List ℤ → Relay
 sample_relay r xs = by_outcome (sample_reply r xs) (left_at r) (λ reply. relay_now r (window_after r xs))
 
--- the sample call's answer in the table's terms
-abbrev pub outcome_of : {A : Type 0} → Result A Refusal → Outcome A
-outcome_of (Ok a) = gives a
-outcome_of (Err r) = declines (told_of r)
-
 -- an answer and a record
 pub record Gives (o : Outcome Answer) (after : Relay) (s : Sampled) : Type 0 where
   pub reply : outcome_of s.answer ≡ o
@@ -152,7 +145,7 @@ abbrev pub reset_relay : Relay → Relay
 reset_relay r = by_outcome (reset_reply r) (λ refusal. r) (λ done. cleared r)
 
 pub record Resets (r : Relay) (s : Returned) : Type 0 where
-  pub reply : Refusals.outcome_of s.verdict ≡ reset_reply r
+  pub reply : outcome_of s.verdict ≡ reset_reply r
   pub relay : s.relay ≡ reset_relay r
 
 -- ---- starting a fresh relay from setting values: 4, 5, 17, 6, 7 (§ The order of refusals 5), and then a blank record, on which every call declines
@@ -165,5 +158,5 @@ abbrev pub started_on : Setting → Setting
 started_on v = by_outcome (start_reply v) (λ refusal. blank) (λ done. v)
 
 pub record Starts (v : Setting) (s : Returned) : Type 0 where
-  pub reply : Refusals.outcome_of s.verdict ≡ start_reply v
+  pub reply : outcome_of s.verdict ≡ start_reply v
   pub relay : s.relay ≡ fresh (started_on v)

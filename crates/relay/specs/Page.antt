@@ -1,14 +1,13 @@
 -- Reading and writing the register page, a byte at a time (§ The register page, § The order of refusals 8 and 9).
 use Rattle.std.specs.Prelude.{◌≡◌, Bool, not, ◌&&◌, ◌||◌, cond, List, [], ◌∷◌, ℕ, leb, eqb, get_or}
-use Rattle.refusal.specs.Refusals.{Outcome, by_outcome, Row, ◌when◌, first_of, first_refusal}
-use Rattle.refusal.specs.Refusals as Refusals
+use Rattle.refusal.specs.Refusals.{Outcome, outcome_of, by_outcome, Row, ◌when◌, first_of, first_refusal}
 use Rattle.page.specs.Events.{written as written_events}
 use Rattle.page.specs.Page.{page, shown}
 use Rattle.relay.specs.declared.Relay.{Relay}
 use Rattle.relay.specs.declared.PageRead.{PageRead}
 use Rattle.relay.specs.declared.Returned.{Returned}
 use Rattle.relay.specs.Record.{admissible, with_events}
-use Rattle.relay.specs.Calls.{outcome_of, cleared}
+use Rattle.relay.specs.Calls.{cleared}
 
 -- the page of a record: the latched mask is the record's; other masks and currents are those of the last accepted set, zero unless the window is full
 abbrev pub page_of : Relay → List ℕ
@@ -62,5 +61,5 @@ abbrev pub write_relay : Relay → (offset byte : ℕ) → Relay
 write_relay r offset byte = by_outcome (write_reply r offset) (λ refusal. r) (λ done. written r offset byte)
 
 pub record Writes (r : Relay) (offset byte : ℕ) (s : Returned) : Type 0 where
-  pub reply : Refusals.outcome_of s.verdict ≡ write_reply r offset
+  pub reply : outcome_of s.verdict ≡ write_reply r offset
   pub relay : s.relay ≡ write_relay r offset byte

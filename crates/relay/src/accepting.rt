@@ -8,7 +8,7 @@ ghost use Rattle.relay.specs.Record.{admissible as admissible_of};
 ghost use Rattle.relay.specs.Calls.{in_reach, set_rows};
 
 use crate::Relay;
-use refusal::{Refusal, Verdict};
+use refusal::Refusal;
 use setting::Setting;
 
 // Whether a record is one that the calls take: refusal 12.
@@ -43,17 +43,17 @@ pub fn unused_zero(ends: u8, set: &[i16]) -> bool
 
 // Whether a set is accepted on a setting: 14, 10, 11, in this order.
 #[tactic(auto, unfolding(crate::specs::Calls::set_rows))]
-pub fn set_verdict(v: Setting, set: &[i16]) -> Verdict
+pub fn set_verdict(v: Setting, set: &[i16]) -> Result<(), Refusal>
     ensures { outcome_of result ≡ first_refusal (set_rows v set.now) }
 {
     if set.len() != 12 {
-        return Verdict::Refused(Refusal::Count);
+        return Err(Refusal::Count);
     }
     if !in_reach(set) {
-        return Verdict::Refused(Refusal::Reach);
+        return Err(Refusal::Reach);
     }
     if !unused_zero(v.ends, set) {
-        return Verdict::Refused(Refusal::Unused);
+        return Err(Refusal::Unused);
     }
-    Verdict::Accepted
+    Ok(())
 }

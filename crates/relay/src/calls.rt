@@ -1,7 +1,6 @@
 // The relay's calls: start, sample and reset. Sample and reset take the record by value and hand it back beside the answer.
 
-ghost use Rattle.std.specs.Prelude.{◌≡◌};
-ghost use Rattle.refusal.specs.declared.Verdict.TheVariants.{Refused};
+ghost use Rattle.std.specs.Prelude.{◌≡◌, Err};
 ghost use Rattle.refusal.specs.Refusals.{gives};
 ghost use Rattle.relay.specs.Calls.{reply_now, relay_now, refused_relay, cleared as cleared_of, Gives, Samples, Resets, Starts};
 ghost use Rattle.relay.specs.CallInput.{element_by, trip_after, FillingNow, FullNow};
@@ -9,7 +8,7 @@ ghost use Rattle.relay.specs.CallInput.{element_by, trip_after, FillingNow, Full
 use crate::{Answer, Measure, Relay, Returned, Sampled, accepting, starting};
 use bits::Bits;
 use measuring::{Reading, Readings};
-use refusal::{Refusal, Verdict};
+use refusal::Refusal;
 use setting::{Setting, factors};
 use state::{Element, Trip, Window};
 
@@ -109,10 +108,10 @@ fn flagged(r: Relay) -> Relay
 
 // A refusal of a reset or a write, with the record as before.
 pub fn declined(r: Relay, why: Refusal) -> Returned
-    ensures { result ≡ record { verdict = Refused why; relay = r } }
+    ensures { result ≡ record { verdict = Err why; relay = r } }
 {
     Returned {
-        verdict: Verdict::Refused(why),
+        verdict: Err(why),
         relay: r,
     }
 }
@@ -152,7 +151,7 @@ impl Relay {
             };
         }
         let v = self.setting;
-        if let Verdict::Refused(why) = accepting::set_verdict(v, set) {
+        if let Err(why) = accepting::set_verdict(v, set) {
             return Sampled {
                 answer: Err(why),
                 relay: flagged(self),
@@ -176,7 +175,7 @@ impl Relay {
             return declined(self, Refusal::Record);
         }
         Returned {
-            verdict: Verdict::Accepted,
+            verdict: Ok(()),
             relay: cleared(self),
         }
     }

@@ -10,7 +10,7 @@ pub mod starting;
 use measuring::Reading;
 use overcurrent::{Backup, Trips};
 use page::Events;
-use refusal::{Refusal, Verdict};
+use refusal::Refusal;
 use setting::Setting;
 use state::{Trip, Window};
 
@@ -49,7 +49,7 @@ pub struct Sampled {
 // The answer to a start, a reset or a write, and the record that comes back: blank where a start is refused.
 #[derive(Clone, Copy)]
 pub struct Returned {
-    pub verdict: Verdict,
+    pub verdict: Result<(), Refusal>,
     pub relay: Relay,
 }
 

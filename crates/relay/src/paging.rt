@@ -1,11 +1,11 @@
 // The register page, read and written a byte at a time. Both take the record by value and hand it back beside the answer.
 
 ghost use Rattle.std.specs.Prelude.{◌≡◌, ◌||◌, eqb};
-ghost use Rattle.relay.specs.Calls.{outcome_of};
+ghost use Rattle.refusal.specs.Refusals.{outcome_of};
 ghost use Rattle.relay.specs.Page.{read_reply, resets as resets_of, written as written_of, Reads, Writes};
 
 use crate::{PageRead, Relay, Returned, accepting, calls};
-use refusal::{Refusal, Verdict};
+use refusal::Refusal;
 
 // 1 written to byte 7.
 fn resets(offset: usize, byte: u8) -> bool
@@ -75,7 +75,7 @@ impl Relay {
             return calls::declined(self, Refusal::Record);
         }
         Returned {
-            verdict: Verdict::Accepted,
+            verdict: Ok(()),
             relay: written(self, offset, byte),
         }
     }

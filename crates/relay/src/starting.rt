@@ -8,7 +8,7 @@ ghost use Rattle.relay.specs.Calls.{blank as blank_of};
 
 use crate::Relay;
 use page::Events;
-use refusal::Verdict;
+use refusal::Refusal;
 use setting::{End, Overcurrent, Setting, Thresholds};
 use state::{Element, Trip, Window};
 
@@ -50,12 +50,12 @@ pub fn blank() -> Setting
 }
 
 // The values that the record of a start holds: blank ones on a refusal.
-pub fn started_on(v: Setting, verdict: Verdict) -> Setting
+pub fn started_on(v: Setting, verdict: Result<(), Refusal>) -> Setting
     ensures { result ≡ by_outcome (outcome_of verdict) (λ _. blank_of) (λ _. v) }
 {
     match verdict {
-        Verdict::Accepted => v,
-        Verdict::Refused(_) => blank(),
+        Ok(()) => v,
+        Err(_) => blank(),
     }
 }
 

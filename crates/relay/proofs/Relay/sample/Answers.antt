@@ -28,11 +28,11 @@ unfolding sample_rows
 returns-then-not-admissible c =
     declined c.args.self c.args.set.now (here (rw (← c.admissible.ensures) (rw c.if-not-admissible.true))) (record { reply = refl; relay = refl })
 
-pub returns-in-Refused : goal.returns-in-Refused
-returns-in-Refused c =
+pub returns-in-Err : goal.returns-in-Err
+returns-in-Err c =
     let r = c.args.self in
     let ok : admissible r ≡ true = sym c.admissible.ensures ∙ c.if-not-admissible.false in
-    set_declined r.setting r c.args.set.now ok refl (sym c.set_verdict.ensures ∙ ap outcome_of c.in-Refused.is) (record { reply = refl; relay = c.flagged.ensures })
+    set_declined r.setting r c.args.set.now ok refl (sym c.set_verdict.ensures ∙ ap outcome_of c.in-Err.is) (record { reply = refl; relay = c.flagged.ensures })
 
 -- where the set is accepted
 module _ (c : In_default) where
