@@ -1,9 +1,6 @@
 // A part of the record put to another value.
 
-use inverse_time::Timer;
-use overcurrent::Backup;
 use setting::{End, Setting, Thresholds};
-use state::Window;
 
 // A part of the record, and which one of several.
 #[derive(Clone, Copy)]
@@ -122,22 +119,5 @@ pub fn change_setting(v: &mut Setting, at: u8, x: Value) {
         ..74 => change_threshold(&mut v.thresholds, at, x),
         74 => v.overcurrent.pickup = x.into(),
         _ => v.overcurrent.curve = x.into(),
-    }
-}
-
-// The matched number in a place of the window, where there is one.
-pub fn change_number(w: &mut Window, place: u8, x: Value) {
-    if let Some(number) = w.values.get_mut(usize::from(place)) {
-        *number = x.into();
-    }
-}
-
-// The overcurrent element of an end.
-pub fn timer(b: &mut Backup, end: u8) -> &mut Timer {
-    match end {
-        0 => &mut b.e0,
-        1 => &mut b.e1,
-        2 => &mut b.e2,
-        _ => &mut b.e3,
     }
 }
