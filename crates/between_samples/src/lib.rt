@@ -12,8 +12,6 @@ use relay::Relay;
 // One reset call.
 pub fn reset_call(relay: Relay) -> Relay {
     let done = relay.reset();
-    let verdict = done.verdict;
-    let after = done.relay;
-    programs::print_done(verdict, b"reset");
-    after
+    programs::print_done(done.verdict, b"reset");
+    done.relay
 }

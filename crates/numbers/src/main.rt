@@ -5,75 +5,45 @@
 
 #![tactic(auto)]
 
-ghost use Rattle.integer.specs.Nearest.{Divides};
+use programs::print;
 
-fn rounded(away: bool, a: i64, b: u64) -> i64
-    requires { Divides a b }
-{
-    if away {
-        integer::nearest_away(a, b)
-    } else {
-        integer::nearest(a, b)
-    }
-}
-
-fn print_quotient(minus: bool, away: bool, a: u64, b: u64) {
-    if 1152921504606846976 < a {
-        return;
-    }
-    if b == 0 {
-        return;
-    }
-    if 1099511627776 < b {
-        return;
+// The quotient by what is to be done, where a and b are within reach of the roundings.
+fn quotient(kind: u8, a: u64, b: u64) -> Option<i64> {
+    if 1152921504606846976 < a || b == 0 || 1099511627776 < b {
+        return None;
     }
     let n = a as i64;
-    if minus {
-        programs::print_number(rounded(away, 0 - n, b));
-        return;
-    }
-    programs::print_number(rounded(away, n, b));
+    Some(match kind {
+        b'm' => integer::nearest(-n, b),
+        b'a' => integer::nearest_away(n, b),
+        b'b' => integer::nearest_away(-n, b),
+        _ => integer::nearest(n, b),
+    })
 }
 
 fn print_root(a: u64) {
     let found = integer::root(a);
-    io::print_decimal(1, found.root);
-    programs::print_field(found.turns as u64);
+    print(format_args!("{} {}", found.root, found.turns));
 }
 
-fn next() -> bool {
-    let mut record = [0u8; 17];
-    let n = io::read_full(0, &mut record);
-    if n < 17 {
-        return false;
-    }
-    let kind = record[0];
-    let a = programs::u64_at(&record, 1);
-    let b = programs::u64_at(&record, 9);
+// The line of a record.
+fn print_result(kind: u8, a: u64, b: u64) {
     if kind == b'r' {
         print_root(a);
-    } else {
-        print_quotient(
-            kind == b'm' || kind == b'b',
-            kind == b'a' || kind == b'b',
-            a,
-            b,
-        );
+    } else if let Some(x) = quotient(kind, a, b) {
+        print(x);
     }
     programs::end_line();
-    true
-}
-
-fn run() {
-    let mut left: u64 = 100000;
-    while 0 < left {
-        if !next() {
-            return;
-        }
-        left -= 1;
-    }
 }
 
 fn main() {
-    run();
+    for _ in 0..100000 {
+        let mut record = [0u8; 17];
+        if io::read_full(0, &mut record) < 17 {
+            return;
+        }
+        let a = programs::u64_at(&record, 1);
+        let b = programs::u64_at(&record, 9);
+        print_result(record[0], a, b);
+    }
 }

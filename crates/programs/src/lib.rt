@@ -1,126 +1,95 @@
-// What the programs of the tests share: counts and numbers of eight bytes, and numbers, refusals and readings written to standard output one by one.
+// What the programs of the tests share: numbers of eight bytes, and numbers, refusals and readings written to standard output one by one.
 
 #![tactic(auto)]
 
-ghost use Rattle.std.specs.Prelude.{◌≡◌, ◌+◌, ◌<◌, nat_abs, length};
+ghost use Rattle.std.specs.Prelude.{◌+◌, ◌<◌, length};
 
 use measuring::Reading;
-use refusal::{Refusal, Verdict};
+use refusal::Refusal;
+use std::fmt::{self, Display, Write};
 
-// A byte as a count.
-pub fn count_of(byte: u8) -> usize {
-    byte as usize
-}
+// Standard output, to which text is written in pieces. A piece that fails holds back none of those after it.
+#[derive(Drop)]
+struct Output;
 
-// The number whose lower and upper 32 bits are given.
-fn of_halves(low: u32, high: u32) -> u64 {
-    low as u64 + 4294967296 * (high as u64)
+impl Write for Output {
+    fn write_str(&mut self, s: &str) -> fmt::Result {
+        io::write_all(1, s.as_bytes());
+        Ok(())
+    }
 }
 
 // The number of eight bytes from a place on, little-endian.
 pub fn u64_at(bytes: &[u8], at: usize) -> u64
     requires { at + 7 < length bytes.now }
 {
-    of_halves(block::u32_at(bytes, at), block::u32_at(bytes, at + 4))
+    u64::from_le_bytes(bytes[at..at + 8].try_into().unwrap())
 }
 
-// |x|
-fn magnitude(x: i64) -> u64
-    ensures { result ≡ nat_abs x }
-{
-    if x < 0 { 1 + (-1 - x) as u64 } else { x as u64 }
+// Writes a value.
+pub fn print<T: Display + Drop>(x: T) {
+    let _ = write!(Output, "{x}");
 }
 
-// Writes a signed number.
-pub fn print_number(x: i64) {
-    if x < 0 {
-        io::write_all(1, b"-");
-    }
-    io::print_decimal(1, magnitude(x));
+// Writes a space and a value.
+pub fn print_field<T: Display + Drop>(x: T) {
+    let _ = write!(Output, " {x}");
 }
 
-// Writes a space and a signed number.
-pub fn print_signed(x: i64) {
-    io::write_all(1, b" ");
-    print_number(x);
-}
-
-// Writes signed numbers, a space before each.
+// Writes numbers, a space before each.
 pub fn print_numbers(numbers: &[i32]) {
-    let mut k: usize = 0;
-    while k < numbers.len() {
-        print_signed(numbers[k] as i64);
-        k += 1;
+    for x in numbers {
+        print_field(*x);
     }
-}
-
-// Writes a space and a number.
-pub fn print_field(n: u64) {
-    io::write_all(1, b" ");
-    io::print_decimal(1, n);
 }
 
 // Writes a space and a test as 0 or 1.
 pub fn print_flag(b: bool) {
-    if b {
-        io::write_all(1, b" 1");
-    } else {
-        io::write_all(1, b" 0");
-    }
+    print_field(u8::from(b));
 }
 
 // Writes a line's end.
 pub fn end_line() {
-    io::write_all(1, b"\n");
+    print("\n");
 }
 
 // Writes the rest of a line: the number of a refusal, and with 5 the offset.
 pub fn print_told(r: Refusal) {
-    print_field(refusal::number(r) as u64);
+    print_field(u8::from(r));
     if let Refusal::Field(offset) = r {
-        print_field(offset as u64);
+        print_field(offset);
     }
     end_line();
 }
 
 // Writes the line of a refused call.
 pub fn print_refused(r: Refusal) {
-    io::write_all(1, b"refused");
+    print("refused");
     print_told(r);
 }
 
 // Writes the rest of a line: 0, or what a refusal tells.
-pub fn print_verdict(v: Verdict) {
+pub fn print_verdict(v: Result<(), Refusal>) {
     match v {
-        Verdict::Accepted => {
-            print_field(0);
-            end_line();
-        }
-        Verdict::Refused(r) => {
-            print_told(r);
-        }
+        Ok(()) => print(" 0\n"),
+        Err(r) => print_told(r),
     }
 }
 
 // Writes the line of a call that answers with no value: a word of its own where it is done, or the refusal.
-pub fn print_done(v: Verdict, word: &[u8]) {
+pub fn print_done(v: Result<(), Refusal>, word: &[u8]) {
     match v {
-        Verdict::Accepted => {
+        Ok(()) => {
             io::write_all(1, word);
             end_line();
         }
-        Verdict::Refused(r) => {
-            print_refused(r);
-        }
+        Err(r) => print_refused(r),
     }
 }
 
 // Writes what is measured of a system: D, R (twice the restraint), H2, H5, start and blocked.
 pub fn print_reading(m: Reading) {
-    print_field(m.d as u64);
-    print_field(m.r as u64);
-    print_field(m.h2 as u64);
-    print_field(m.h5 as u64);
+    print(format_args!(" {} {} {} {}", m.d, m.r, m.h2, m.h5));
     print_flag(m.start);
     print_flag(m.blocked);
 }

@@ -1,9 +1,0 @@
--- `numbers::run` ends: the count of records that may follow falls with each turn.
-
-use Rattle.numbers.proofs.run.Given as goal
-
-abbrev pub invariant-loop-left : goal.invariant-loop-left
-invariant-loop-left l = Unit {0}
-
-abbrev pub decreases-loop-left : goal.decreases-loop-left
-decreases-loop-left l = l.left
