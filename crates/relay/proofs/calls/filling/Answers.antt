@@ -1,4 +1,5 @@
 -- `relay::calls::filling` meets its contract: no system counts at a set that answers Filling.
+use borrow.Author.Rules.{rules}
 use Rattle.relay.proofs.Settled.{filling_reply, filling_relay}
 use Rattle.relay.proofs.calls.filling.Goals as goal
 
