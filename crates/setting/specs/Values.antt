@@ -119,7 +119,7 @@ factor_high v = not (each (λ k. le_z k (pos 1048576)) (factors v))
 unfoldable pub factors_low : Setting → Bool
 factors_low v = ltb (count_by (le_z (pos 32768)) (factors v)) 2
 
--- ---- the refusals of values whose fields are `fs`
+-- ---- the refusals of values, by their fields
 
 -- 4 and 5
 abbrev pub field_rows : List Field → Setting → List Row
