@@ -6,7 +6,7 @@ use setting::Setting;
 // A start, and the values written to a buffer of 600 bytes and to one of 511, a line each.
 pub fn begin_block(v: Setting) {
     programs::print("start");
-    programs::print_verdict(Relay::start(v).verdict);
+    programs::print_verdict(Relay::start(v).answer);
     programs::print("write");
     programs::print_verdict(setting_block::writer::write_setting(v, &mut [0u8; 600]));
     programs::print("short");

@@ -12,6 +12,6 @@ use relay::Relay;
 // One reset call.
 pub fn reset_call(relay: Relay) -> Relay {
     let done = relay.reset();
-    programs::print_done(done.verdict, b"reset");
+    programs::print_done(done.answer, b"reset");
     done.relay
 }

@@ -34,7 +34,7 @@ fn page_call(relay: Relay, call: PageCall) -> Relay {
         }
         PageCall::Write(offset, byte) => {
             let done = relay.write(offset, byte);
-            programs::print_done(done.verdict, b"written");
+            programs::print_done(done.answer, b"written");
             done.relay
         }
     }

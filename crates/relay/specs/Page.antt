@@ -1,13 +1,12 @@
 -- Reading and writing the register page, a byte at a time (§ The register page, § The order of refusals 8 and 9).
-use Rattle.std.specs.Prelude.{◌≡◌, Bool, not, ◌&&◌, ◌||◌, cond, List, [], ◌∷◌, ℕ, leb, eqb, get_or}
-use Rattle.refusal.specs.Refusals.{Outcome, outcome_of, by_outcome, Row, ◌when◌, first_of, first_refusal}
+use Rattle.std.specs.Prelude.{Bool, not, ◌&&◌, ◌||◌, cond, List, [], ◌∷◌, ℕ, leb, eqb, get_or}
+use Rattle.refusal.specs.Refusals.{Outcome, by_outcome, Row, ◌when◌, first_of, first_refusal}
 use Rattle.page.specs.Events.{written as written_events}
 use Rattle.page.specs.Page.{page, shown}
 use Rattle.relay.specs.declared.Relay.{Relay}
-use Rattle.relay.specs.declared.PageRead.{PageRead}
-use Rattle.relay.specs.declared.Returned.{Returned}
+use Rattle.relay.specs.declared.Answered.{Answered}
 use Rattle.relay.specs.Record.{admissible, with_events}
-use Rattle.relay.specs.Calls.{cleared}
+use Rattle.relay.specs.Calls.{Gives, cleared}
 
 -- the page of a record: the latched mask is the record's; other masks and currents are those of the last accepted set, zero unless the window is full
 abbrev pub page_of : Relay → List ℕ
@@ -37,9 +36,8 @@ read_reply r offset = first_of (read_rows r offset) (get_or (page_of r) offset 0
 abbrev pub read_relay : Relay → ℕ → Relay
 read_relay r offset = r
 
-pub record Reads (r : Relay) (offset : ℕ) (s : PageRead) : Type 0 where
-  pub reply : outcome_of s.answer ≡ read_reply r offset
-  pub relay : s.relay ≡ read_relay r offset
+abbrev pub Reads : Relay → (offset : ℕ) → Answered ℕ → Type 0
+Reads r offset s = Gives (read_reply r offset) (read_relay r offset) s
 
 -- ---- writing
 
@@ -60,6 +58,5 @@ write_reply r offset = first_refusal (write_rows r offset)
 abbrev pub write_relay : Relay → (offset byte : ℕ) → Relay
 write_relay r offset byte = by_outcome (write_reply r offset) (λ refusal. r) (λ done. written r offset byte)
 
-pub record Writes (r : Relay) (offset byte : ℕ) (s : Returned) : Type 0 where
-  pub reply : outcome_of s.verdict ≡ write_reply r offset
-  pub relay : s.relay ≡ write_relay r offset byte
+abbrev pub Writes : Relay → (offset byte : ℕ) → Answered (Unit {0}) → Type 0
+Writes r offset byte s = Gives (write_reply r offset) (write_relay r offset byte) s

@@ -5,7 +5,7 @@ ghost use Rattle.refusal.specs.Refusals.{gives};
 ghost use Rattle.relay.specs.Calls.{reply_now, relay_now, refused_relay, cleared as cleared_of, Gives, Samples, Resets, Starts};
 ghost use Rattle.relay.specs.CallInput.{element_by, trip_after, FillingNow, FullNow};
 
-use crate::{Answer, Measure, Relay, Returned, Sampled, accepting, starting};
+use crate::{Answer, Answered, Measure, Relay, accepting, starting};
 use bits::Bits;
 use measuring::{Reading, Readings};
 use refusal::Refusal;
@@ -31,13 +31,13 @@ pub fn trip_after(v: Setting, m: Readings, t: Trip) -> Trip
 }
 
 // A set filed in a window that is not full yet: the number held, counters cleared; overcurrent sums stay.
-fn filling(r: Relay, w: Window) -> Sampled
+fn filling(r: Relay, w: Window) -> Answered<Answer>
     requires { FillingNow r w }
     ensures { Gives (gives (reply_now r w)) (relay_now r w) result }
 {
     let confirm = r.setting.confirm;
     let trip = r.trip.map(|e| state::element_after(confirm, false, e));
-    Sampled {
+    Answered {
         answer: Ok(Answer::Filling(w.fill)),
         relay: Relay {
             window: w,
@@ -48,7 +48,7 @@ fn filling(r: Relay, w: Window) -> Sampled
 }
 
 // A set filed in a window that is full: the three systems measured, counters and latches after it.
-fn measured(r: Relay, w: Window) -> Sampled
+fn measured(r: Relay, w: Window) -> Answered<Answer>
     requires { FullNow r w }
     ensures { Gives (gives (reply_now r w)) (relay_now r w) result }
 {
@@ -70,7 +70,7 @@ fn measured(r: Relay, w: Window) -> Sampled
         reading: m.c,
         latched: trip.c.latch,
     };
-    Sampled {
+    Answered {
         answer: Ok(Answer::Measured(of_a, of_b, of_c, overcurrent::tripped(backup))),
         relay: Relay {
             window: w,
@@ -99,11 +99,11 @@ fn flagged(r: Relay) -> Relay
 }
 
 // A refusal of a reset or a write, with the record as before.
-pub fn declined(r: Relay, why: Refusal) -> Returned
-    ensures { result ≡ record { verdict = Err why; relay = r } }
+pub fn declined(r: Relay, why: Refusal) -> Answered<()>
+    ensures { result ≡ record { answer = Err why; relay = r } }
 {
-    Returned {
-        verdict: Err(why),
+    Answered {
+        answer: Err(why),
         relay: r,
     }
 }
@@ -122,29 +122,29 @@ pub fn cleared(r: Relay) -> Relay
 
 impl Relay {
     // A fresh relay on setting values, or the refusal, 4, 5, 17, 6, 7, beside a blank record.
-    pub fn start(v: Setting) -> Returned
+    pub fn start(v: Setting) -> Answered<()>
         ensures { Starts v result }
     {
-        let verdict = setting::judging::start_verdict(v);
-        Returned {
-            verdict,
-            relay: starting::fresh(starting::started_on(v, verdict)),
+        let answer = setting::judging::start_verdict(v);
+        Answered {
+            answer,
+            relay: starting::fresh(starting::started_on(v, answer)),
         }
     }
 
     // A sample set: 12, 14, 10, 11, in this order; an accepted set is filed and answered.
-    pub fn sample(self, set: &[i16]) -> Sampled
+    pub fn sample(self, set: &[i16]) -> Answered<Answer>
         ensures { Samples self set.now result }
     {
         if !accepting::admissible(self) {
-            return Sampled {
+            return Answered {
                 answer: Err(Refusal::Record),
                 relay: self,
             };
         }
         let v = self.setting;
         if let Err(why) = accepting::set_verdict(v, set) {
-            return Sampled {
+            return Answered {
                 answer: Err(why),
                 relay: flagged(self),
             };
@@ -160,14 +160,14 @@ impl Relay {
 
     // Clears counters, latches, overcurrent sums and their trips, and not the window: 12.
     #[tactic(auto, unfolding(crate::specs::Calls::reset_rows))]
-    pub fn reset(self) -> Returned
+    pub fn reset(self) -> Answered<()>
         ensures { Resets self result }
     {
         if !accepting::admissible(self) {
             return declined(self, Refusal::Record);
         }
-        Returned {
-            verdict: Ok(()),
+        Answered {
+            answer: Ok(()),
             relay: cleared(self),
         }
     }

@@ -39,23 +39,9 @@ pub enum Answer {
     Measured(Measure, Measure, Measure, Trips),
 }
 
-// The answer to a sample call, or the refusal, and the record that comes back.
+// The answer to a call, or its refusal, and the record that comes back: blank where a start is refused.
 #[derive(Clone, Copy)]
-pub struct Sampled {
-    pub answer: Result<Answer, Refusal>,
-    pub relay: Relay,
-}
-
-// The answer to a start, a reset or a write, and the record that comes back: blank where a start is refused.
-#[derive(Clone, Copy)]
-pub struct Returned {
-    pub verdict: Result<(), Refusal>,
-    pub relay: Relay,
-}
-
-// The answer to a read of the register page, the byte or the refusal, and the record that comes back.
-#[derive(Clone, Copy)]
-pub struct PageRead {
-    pub answer: Result<u8, Refusal>,
+pub struct Answered<T> {
+    pub answer: Result<T, Refusal>,
     pub relay: Relay,
 }
