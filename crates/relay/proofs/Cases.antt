@@ -17,7 +17,7 @@ use Rattle.setting.specs.declared.Setting.{Setting}
 use Rattle.state.specs.declared.Window.{Window}
 use Rattle.relay.specs.declared.Relay.{Relay}
 use Rattle.relay.specs.declared.Answer.{Answer}
-use Rattle.relay.specs.declared.Answered.{Answered}
+use Rattle.relay.specs.declared.Returned.{Returned}
 use Rattle.page.specs.Events.{written as written_events}
 use Rattle.relay.specs.Record.{fresh, admissible, with_events}
 use Rattle.relay.specs.Calls.{set_rows, accepted, sample_rows, window_after, reply_now, relay_now, refused_relay, of_set, left_at, sample_reply, Gives, Samples}
@@ -30,14 +30,14 @@ pub record Accepted (v : Setting) (r : Relay) : Type 0 where
   pub given : start_reply v ≡ done
   pub relay : r ≡ fresh v
 
-pub start_accepted : {v : Setting} {s : Answered (Unit {0})} → Starts v s → s.answer ≡ Ok (tt {0}) → Accepted v s.relay
+pub start_accepted : {v : Setting} {s : Returned (Unit {0})} → Starts v s → s.answer ≡ Ok (tt {0}) → Accepted v s.relay
 start_accepted {v} s e =
     let o : start_reply v ≡ done = sym s.reply ∙ ap outcome_of e in
     record { given = o; relay = rw o at s.relay }
 
 -- ---- any record
 
-pub declined : (r : Relay) (xs : List ℤ) {s : Answered Answer} {n : Told} → Stops (sample_rows r xs) n → Gives (declines n) (left_at r n) s → Samples r xs s
+pub declined : (r : Relay) (xs : List ℤ) {s : Returned Answer} {n : Told} → Stops (sample_rows r xs) n → Gives (declines n) (left_at r n) s → Samples r xs s
 declined r xs {n = n} p g =
     let o : sample_reply r xs ≡ declines n = stops_declines p _ in
     record { reply = rw o g.reply; relay = rw o g.relay }
@@ -76,7 +76,7 @@ module _ (v : Setting) (r : Relay) (xs : List ℤ) (adm : admissible r ≡ true)
   pub sample_told : {n : Told} → first_refusal (set_rows v xs) ≡ declines n → sample_reply r xs ≡ declines n
   sample_told e = sample_reply_lem ∙ first_of_values (tt {0}) (reply_now r (window_after r xs)) (set_rows v xs) ∙ rw e
 
-  pub set_declined : {n : Told} {s : Answered Answer} → first_refusal (set_rows v xs) ≡ declines n → Gives (declines n) (refused_relay r) s → Samples r xs s
+  pub set_declined : {n : Told} {s : Returned Answer} → first_refusal (set_rows v xs) ≡ declines n → Gives (declines n) (refused_relay r) s → Samples r xs s
   set_declined {s = s} e g = by (accepted v xs) refl
     where
       by : (b : Bool) → accepted v xs ≡ b → Samples r xs s
@@ -87,7 +87,7 @@ module _ (v : Setting) (r : Relay) (xs : List ℤ) (adm : admissible r ≡ true)
       by false p = let o = sample_declines p in record { reply = rw (sample_told e) g.reply; relay = rw (o.is, other_leaves o r) g.relay }
 
   -- and one that was accepted, filed in the window w
-  pub set_taken : {s : Answered Answer} → accepted v xs ≡ true → (w : Window) → w ≡ window_after r xs → Gives (gives (reply_now r w)) (relay_now r w) s → Samples r xs s
+  pub set_taken : {s : Returned Answer} → accepted v xs ≡ true → (w : Window) → w ≡ window_after r xs → Gives (gives (reply_now r w)) (relay_now r w) s → Samples r xs s
   set_taken t w e g = let o = sample_gives t in record { reply = rw (o, ← e) g.reply; relay = rw (o, ← e) g.relay }
 
 -- a write that resets is one to byte 7

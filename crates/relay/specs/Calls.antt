@@ -16,7 +16,7 @@ use Rattle.relay.specs.declared.Relay.{Relay}
 use Rattle.relay.specs.declared.Measure.{Measure}
 use Rattle.relay.specs.declared.Answer.{Answer}
 use Rattle.relay.specs.declared.Answer.TheVariants.{Filling, Measured}
-use Rattle.relay.specs.declared.Answered.{Answered}
+use Rattle.relay.specs.declared.Returned.{Returned}
 use Rattle.characteristic.specs.Characteristic.{counts}
 use Rattle.measuring.specs.Measuring.{differential, start, blocked, reading_of}
 use Rattle.state.specs.State.{element_of, per_system, element_after, clear, latches_of, window_with, full}
@@ -121,11 +121,11 @@ abbrev pub sample_relay : Relay → List ℤ → Relay
 sample_relay r xs = by_outcome (sample_reply r xs) (left_at r) (λ reply. relay_now r (window_after r xs))
 
 -- an answer and a record
-pub record Gives {A : Type 0} (o : Outcome A) (after : Relay) (s : Answered A) : Type 0 where
+pub record Gives {A : Type 0} (o : Outcome A) (after : Relay) (s : Returned A) : Type 0 where
   pub reply : outcome_of s.answer ≡ o
   pub relay : s.relay ≡ after
 
-abbrev pub Samples : Relay → List ℤ → Answered Answer → Type 0
+abbrev pub Samples : Relay → List ℤ → Returned Answer → Type 0
 Samples r xs s = Gives (sample_reply r xs) (sample_relay r xs) s
 
 -- ---- reset: 12; it clears counters and latches, not the window; flags and interrupt mask stay; it clears overcurrent sums and their trips
@@ -144,7 +144,7 @@ reset_reply r = first_refusal (reset_rows r)
 abbrev pub reset_relay : Relay → Relay
 reset_relay r = by_outcome (reset_reply r) (λ refusal. r) (λ done. cleared r)
 
-abbrev pub Resets : Relay → Answered (Unit {0}) → Type 0
+abbrev pub Resets : Relay → Returned (Unit {0}) → Type 0
 Resets r s = Gives (reset_reply r) (reset_relay r) s
 
 -- ---- starting a fresh relay from setting values: 4, 5, 17, 6, 7 (§ The order of refusals 5), and then a blank record, on which every call declines
@@ -156,5 +156,5 @@ start_reply v = first_refusal (start_rows v)
 abbrev pub started_on : Setting → Setting
 started_on v = by_outcome (start_reply v) (λ refusal. blank) (λ done. v)
 
-abbrev pub Starts : Setting → Answered (Unit {0}) → Type 0
+abbrev pub Starts : Setting → Returned (Unit {0}) → Type 0
 Starts v s = Gives (start_reply v) (fresh (started_on v)) s

@@ -4,7 +4,7 @@ use Rattle.refusal.specs.Refusals.{Outcome, by_outcome, Row, ◌when◌, first_o
 use Rattle.page.specs.Events.{written as written_events}
 use Rattle.page.specs.Page.{page, shown}
 use Rattle.relay.specs.declared.Relay.{Relay}
-use Rattle.relay.specs.declared.Answered.{Answered}
+use Rattle.relay.specs.declared.Returned.{Returned}
 use Rattle.relay.specs.Record.{admissible, with_events}
 use Rattle.relay.specs.Calls.{Gives, cleared}
 
@@ -36,7 +36,7 @@ read_reply r offset = first_of (read_rows r offset) (get_or (page_of r) offset 0
 abbrev pub read_relay : Relay → ℕ → Relay
 read_relay r offset = r
 
-abbrev pub Reads : Relay → (offset : ℕ) → Answered ℕ → Type 0
+abbrev pub Reads : Relay → (offset : ℕ) → Returned ℕ → Type 0
 Reads r offset s = Gives (read_reply r offset) (read_relay r offset) s
 
 -- ---- writing
@@ -58,5 +58,5 @@ write_reply r offset = first_refusal (write_rows r offset)
 abbrev pub write_relay : Relay → (offset byte : ℕ) → Relay
 write_relay r offset byte = by_outcome (write_reply r offset) (λ refusal. r) (λ done. written r offset byte)
 
-abbrev pub Writes : Relay → (offset byte : ℕ) → Answered (Unit {0}) → Type 0
+abbrev pub Writes : Relay → (offset byte : ℕ) → Returned (Unit {0}) → Type 0
 Writes r offset byte s = Gives (write_reply r offset) (write_relay r offset byte) s

@@ -5,7 +5,7 @@ ghost use Rattle.refusal.specs.Refusals.{gives};
 ghost use Rattle.relay.specs.Calls.{reply_now, relay_now, refused_relay, cleared as cleared_of, Gives, Samples, Resets, Starts};
 ghost use Rattle.relay.specs.CallInput.{element_by, trip_after, FillingNow, FullNow};
 
-use crate::{Answer, Answered, Measure, Relay, accepting, starting};
+use crate::{Answer, Returned, Measure, Relay, accepting, starting};
 use bits::Bits;
 use measuring::{Reading, Readings};
 use refusal::Refusal;
@@ -31,13 +31,13 @@ pub fn trip_after(v: Setting, m: Readings, t: Trip) -> Trip
 }
 
 // A set filed in a window that is not full yet: the number held, counters cleared; overcurrent sums stay.
-fn filling(r: Relay, w: Window) -> Answered<Answer>
+fn filling(r: Relay, w: Window) -> Returned<Answer>
     requires { FillingNow r w }
     ensures { Gives (gives (reply_now r w)) (relay_now r w) result }
 {
     let confirm = r.setting.confirm;
     let trip = r.trip.map(|e| state::element_after(confirm, false, e));
-    Answered {
+    Returned {
         answer: Ok(Answer::Filling(w.fill)),
         relay: Relay {
             window: w,
@@ -48,7 +48,7 @@ fn filling(r: Relay, w: Window) -> Answered<Answer>
 }
 
 // A set filed in a window that is full: the three systems measured, counters and latches after it.
-fn measured(r: Relay, w: Window) -> Answered<Answer>
+fn measured(r: Relay, w: Window) -> Returned<Answer>
     requires { FullNow r w }
     ensures { Gives (gives (reply_now r w)) (relay_now r w) result }
 {
@@ -70,7 +70,7 @@ fn measured(r: Relay, w: Window) -> Answered<Answer>
         reading: m.c,
         latched: trip.c.latch,
     };
-    Answered {
+    Returned {
         answer: Ok(Answer::Measured(of_a, of_b, of_c, overcurrent::tripped(backup))),
         relay: Relay {
             window: w,
@@ -99,10 +99,10 @@ fn flagged(r: Relay) -> Relay
 }
 
 // A refusal of a reset or a write, with the record as before.
-pub fn declined(r: Relay, why: Refusal) -> Answered<()>
+pub fn declined(r: Relay, why: Refusal) -> Returned<()>
     ensures { result ≡ record { answer = Err why; relay = r } }
 {
-    Answered {
+    Returned {
         answer: Err(why),
         relay: r,
     }
@@ -122,29 +122,29 @@ pub fn cleared(r: Relay) -> Relay
 
 impl Relay {
     // A fresh relay on setting values, or the refusal, 4, 5, 17, 6, 7, beside a blank record.
-    pub fn start(v: Setting) -> Answered<()>
+    pub fn start(v: Setting) -> Returned<()>
         ensures { Starts v result }
     {
         let answer = setting::judging::start_verdict(v);
-        Answered {
+        Returned {
             answer,
             relay: starting::fresh(starting::started_on(v, answer)),
         }
     }
 
     // A sample set: 12, 14, 10, 11, in this order; an accepted set is filed and answered.
-    pub fn sample(self, set: &[i16]) -> Answered<Answer>
+    pub fn sample(self, set: &[i16]) -> Returned<Answer>
         ensures { Samples self set.now result }
     {
         if !accepting::admissible(self) {
-            return Answered {
+            return Returned {
                 answer: Err(Refusal::Record),
                 relay: self,
             };
         }
         let v = self.setting;
         if let Err(why) = accepting::set_verdict(v, set) {
-            return Answered {
+            return Returned {
                 answer: Err(why),
                 relay: flagged(self),
             };
@@ -160,13 +160,13 @@ impl Relay {
 
     // Clears counters, latches, overcurrent sums and their trips, and not the window: 12.
     #[tactic(auto, unfolding(crate::specs::Calls::reset_rows))]
-    pub fn reset(self) -> Answered<()>
+    pub fn reset(self) -> Returned<()>
         ensures { Resets self result }
     {
         if !accepting::admissible(self) {
             return declined(self, Refusal::Record);
         }
-        Answered {
+        Returned {
             answer: Ok(()),
             relay: cleared(self),
         }

@@ -41,7 +41,7 @@ pub enum Answer {
 
 // The answer to a call, or its refusal, and the record that comes back: blank where a start is refused.
 #[derive(Clone, Copy)]
-pub struct Answered<T> {
+pub struct Returned<T> {
     pub answer: Result<T, Refusal>,
     pub relay: Relay,
 }

@@ -4,7 +4,7 @@ ghost use Rattle.std.specs.Prelude.{◌≡◌, ◌||◌, eqb};
 ghost use Rattle.refusal.specs.Refusals.{outcome_of};
 ghost use Rattle.relay.specs.Page.{read_reply, resets as resets_of, written as written_of, Reads, Writes};
 
-use crate::{Answered, Relay, accepting, calls};
+use crate::{Returned, Relay, accepting, calls};
 use refusal::Refusal;
 
 // 1 written to byte 7.
@@ -51,10 +51,10 @@ fn byte_at(r: Relay, offset: usize) -> Result<u8, Refusal>
 
 impl Relay {
     // The byte of the register page at an offset, or the refusal, with the record as before.
-    pub fn read(self, offset: usize) -> Answered<u8>
+    pub fn read(self, offset: usize) -> Returned<u8>
         ensures { Reads self offset result }
     {
-        Answered {
+        Returned {
             answer: byte_at(self, offset),
             relay: self,
         }
@@ -62,7 +62,7 @@ impl Relay {
 
     // A byte written to the register page: 15, 16, 12. Bytes 3, 4 and 7 are written.
     #[tactic(auto, unfolding(crate::specs::Page::write_rows))]
-    pub fn write(self, offset: usize, byte: u8) -> Answered<()>
+    pub fn write(self, offset: usize, byte: u8) -> Returned<()>
         ensures { Writes self offset byte result }
     {
         if 64 <= offset {
@@ -74,7 +74,7 @@ impl Relay {
         if !accepting::admissible(self) {
             return calls::declined(self, Refusal::Record);
         }
-        Answered {
+        Returned {
             answer: Ok(()),
             relay: written(self, offset, byte),
         }

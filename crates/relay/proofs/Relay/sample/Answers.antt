@@ -15,7 +15,7 @@ use Rattle.state.specs.State.{window_with}
 use Rattle.state.proofs.Placed.{window_with_fill}
 use Rattle.relay.specs.declared.Relay.{Relay}
 use Rattle.relay.specs.declared.Answer.{Answer}
-use Rattle.relay.specs.declared.Answered.{Answered}
+use Rattle.relay.specs.declared.Returned.{Returned}
 use Rattle.relay.specs.Record.{admissible}
 use Rattle.relay.specs.Calls.{set_rows, accepted, sample_rows, window_after, reply_now, relay_now, Gives, Samples}
 use Rattle.relay.proofs.Admission.{admitted}
@@ -81,7 +81,7 @@ module _ (c : After-place-w) where
   filed : c.place-w.result ≡ window_after at set
   filed = c.place-w.ensures.window ∙ ap (λ (ns : List ℤ). window_with at.window ns) c.numbers.ensures
 
-  answered : {s : Answered Answer} → Gives (gives (reply_now at c.place-w.result)) (relay_now at c.place-w.result) s → Samples at set s
+  answered : {s : Returned Answer} → Gives (gives (reply_now at c.place-w.result)) (relay_now at c.place-w.result) s → Samples at set s
   answered g = set_taken at.setting at set ok refl (is_true taken) c.place-w.result filed g
 
   at_most : c.place-w.result.fill ≤ 12
