@@ -1,5 +1,8 @@
 // A part of the record put to another value.
 
+ghost use Rattle.std.specs.Prelude.{◌≡◌};
+ghost use Rattle.record_parts.specs.Changes.{byte, set, half, word, signed, change_of};
+
 use setting::{End, Setting, Thresholds};
 
 // A part of the record, and which one of several.
@@ -26,30 +29,40 @@ pub enum Part {
 pub struct Value([u8; 4]);
 
 impl From<Value> for bool {
+    ghost from_gives = { λ x r. r ≡ set x };
+
     fn from(x: Value) -> bool {
         x.0[0] != 0
     }
 }
 
 impl From<Value> for u8 {
+    ghost from_gives = { λ x r. r ≡ byte x };
+
     fn from(x: Value) -> u8 {
         x.0[0]
     }
 }
 
 impl From<Value> for u16 {
+    ghost from_gives = { λ x r. r ≡ half x };
+
     fn from(x: Value) -> u16 {
         u16::from_le_bytes([x.0[0], x.0[1]])
     }
 }
 
 impl From<Value> for u32 {
+    ghost from_gives = { λ x r. r ≡ word x };
+
     fn from(x: Value) -> u32 {
         u32::from_le_bytes(x.0)
     }
 }
 
 impl From<Value> for i32 {
+    ghost from_gives = { λ x r. r ≡ signed x };
+
     fn from(x: Value) -> i32 {
         i32::from_le_bytes(x.0)
     }
@@ -63,6 +76,8 @@ pub struct Change {
 }
 
 impl From<&[u8; 512]> for Change {
+    ghost from_gives = { λ block r. r ≡ change_of block.now };
+
     fn from(block: &[u8; 512]) -> Change {
         let which = block[2];
         let part = match block[1] {
