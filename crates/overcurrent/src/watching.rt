@@ -10,18 +10,16 @@ pub fn measured(v: Setting, win: &[i32], b: Backup) -> Watched
     requires { WatchInput v win.now b }
     ensures { Watches v win.now b result }
 {
-    let o = v.overcurrent;
-    let on = o.curve != 0;
+    let on = v.overcurrent.curve != 0;
     let m = measuring::measure_ends(v, win, on);
-    let readings = m.readings;
     if !on {
         return Watched {
-            readings,
+            readings: m.readings,
             backup: b,
         };
     }
     Watched {
-        readings,
-        backup: crate::backup_after(v.ends, o.curve, o.pickup, m.amplitudes, b),
+        readings: m.readings,
+        backup: crate::backup_after(v.ends, v.overcurrent.curve, v.overcurrent.pickup, m.amplitudes, b),
     }
 }

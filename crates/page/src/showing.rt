@@ -17,8 +17,7 @@ fn shown(v: Setting, w: Window) -> Readings
     if w.fill < 12 {
         return crate::nothing();
     }
-    let values = w.values;
-    measuring::measure(v, &values)
+    measuring::measure(v, &w.values)
 }
 
 // The byte at an offset; nothing is measured where the byte does not show it.

@@ -1,5 +1,5 @@
 -- The factors: each is at least 0, and the four factors pass the limits' tests as those of the ends in use do.
-use mathlib.Core.Path.{◌≡◌, refl, sym, ap}
+use mathlib.Core.Path.{◌≡◌, refl, sym}
 use mathlib.Core.Bool.{Bool, true, false, cond, not, ◌&&◌}
 use mathlib.Core.List.{List, [], ◌∷◌}
 use Prim.Native.Nat.{ℕ, zero, suc, ◌+◌, ◌*◌, ◌≤◌, ◌<◌}
@@ -8,7 +8,6 @@ use native.Mathlib.Omega.{arith}
 use Rattle.std.specs.Prelude.{count_by}
 use Rattle.std.proofs.lemmas.List.Sums.{sum_by-cons}
 use lib.Dec.{ltb}
-use lib.ListN.{length, get_or, drop}
 use lib.IntN.{ℤ, pos, negsuc}
 use lib.Signed.{le_z, ◌≤ℤ◌}
 use borrow.Author.Tests.{lt-ltb}
@@ -18,7 +17,6 @@ use Rattle.lists.specs.Tests.{each}
 use Rattle.integer.proofs.Reading.{ints, ◌⇒◌}
 use Rattle.integer.proofs.Laws.{cancel-<}
 use Rattle.integer.proofs.HalfUnit.{nearest_near}
-use Rattle.lists.proofs.Places.{drop_next}
 use Rattle.setting.specs.declared.Setting.{Setting}
 use Rattle.setting.specs.Values.{factor, factors, factor_high, factors_low}
 use Rattle.setting.specs.Limits.{Limits, four_factors}

@@ -1,14 +1,12 @@
 -- The search for a field outside its rule. A loop looks at field after field, in block order, and stops at the first; of fields whose offsets rise, the
 -- first has the lowest. Of two lists that are searched one beside the other, the lower of the two offsets is the lowest of both.
-use mathlib.Core.Path.{◌≡◌, refl, sym, ap, ◌∙◌}
+use mathlib.Core.Path.{◌≡◌, refl, sym, ap}
 use mathlib.Core.Bool.{Bool, true, false, cond, ◌&&◌}
 use mathlib.Core.List.{List, [], ◌∷◌, ◌++◌}
 use Rattle.std.specs.Prelude.{Option, None, Some, find, option_map, not}
-use Prim.Native.Nat.{ℕ, ◌+◌, ◌≤◌, ◌<◌, min}
+use Prim.Native.Nat.{ℕ, ◌≤◌, min}
 use native.Mathlib.Omega.{arith}
 use lib.Dec.{T, leb, leb→le}
-use lib.ListN.{length, get_or, drop, drop_of_length-le}
-use Rattle.lists.proofs.Places.{drop_next}
 use Rattle.lists.proofs.TestLaws.{split}
 use Rattle.setting.specs.declared.Field.{Field}
 use Rattle.setting.specs.Values.{offset_of, right, all_right, lower, wrong_at, lowest}

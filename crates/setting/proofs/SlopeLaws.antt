@@ -1,15 +1,14 @@
 -- A start's rows are a block's with 17 between 5 and 6. So they tell the same where slopes do not fall; where they do, what a block's rows tell comes
 -- first if it is 4 or 5, and 17 else.
-use mathlib.Core.Path.{◌≡◌, refl, sym, ◌∙◌}
+use mathlib.Core.Path.{◌≡◌, refl, ◌∙◌}
 use mathlib.Core.Bool.{Bool, true, false, not, cond, ◌&&◌}
 use Rattle.std.specs.Prelude.{Option}
-use Prim.Native.Nat.{ℕ, ◌≤◌, ◌<◌}
+use Prim.Native.Nat.{ℕ, ◌≤◌}
 use native.Mathlib.Omega.{arith}
 use lib.Dec.{T, leb, ltb→lt}
-use borrow.Author.Tests.{le-leb, lt-leb, le-ltb, lt-ltb, ltb-false}
+use borrow.Author.Tests.{le-ltb, ltb-false}
 use Rattle.lists.proofs.TestLaws.{split, pair, is_true, is_false}
-use Rattle.refusal.specs.declared.Refusal.{Refusal}
-use Rattle.refusal.specs.Refusals.{told_of, number_of, Outcome, declines, by_outcome, alone, done, first_refusal}
+use Rattle.refusal.specs.Refusals.{Outcome, declines, by_outcome, alone, done, first_refusal}
 use Rattle.refusal.proofs.Stops.{none_gives}
 use Rattle.setting.specs.declared.Setting.{Setting}
 use Rattle.setting.specs.Values.{between, fields, all_right, lowest, factor_high, factors_low, value_rows, store_rows, storable, falling, start_rows, startable}

@@ -33,12 +33,7 @@ pub fn factors(v: Setting) -> [i64; 4]
     requires { Limits v }
     ensures { result ≡ four_factors v }
 {
-    [
-        factor_at(v, 0),
-        factor_at(v, 1),
-        factor_at(v, 2),
-        factor_at(v, 3),
-    ]
+    std::array::from_fn(|z| factor_at(v, z as u8))
 }
 
 // How many factors are at least so large.

@@ -29,49 +29,39 @@ pub fn end_of(v: Setting, z: u8) -> End
     }
 }
 
-// The fields of setting values in block order; u0 to u3 say which ends are in use.
+// The fields of setting values in block order.
 fn fields(v: Setting) -> [Field; 28]
     ensures { result ≡ fields_of v }
 {
-    let u0 = 0 < v.ends;
-    let u1 = 1 < v.ends;
-    let u2 = 2 < v.ends;
-    let u3 = 3 < v.ends;
-    let a = v.e0;
-    let b = v.e1;
-    let c = v.e2;
-    let d = v.e3;
-    let t = v.thresholds;
-    let o = v.overcurrent;
     [
-        Field(5, true, 0, 7, v.flags as u32),
-        Field(6, true, 1, 24, v.confirm as u32),
+        Field(5, true, 0, 7, u32::from(v.flags)),
+        Field(6, true, 1, 24, u32::from(v.confirm)),
         Field(8, true, 1, 50000, v.power),
-        Field(12, u0, 1, 15000, a.voltage),
-        Field(16, u0, 1, 50000, a.current),
-        Field(20, u0, 0, 0, a.group as u32),
-        Field(21, u0, 0, 1, a.filter as u32),
-        Field(24, u1, 1, 15000, b.voltage),
-        Field(28, u1, 1, 50000, b.current),
-        Field(32, u1, 0, 11, b.group as u32),
-        Field(33, u1, 0, 1, b.filter as u32),
-        Field(36, u2, 1, 15000, c.voltage),
-        Field(40, u2, 1, 50000, c.current),
-        Field(44, u2, 0, 11, c.group as u32),
-        Field(45, u2, 0, 1, c.filter as u32),
-        Field(48, u3, 1, 15000, d.voltage),
-        Field(52, u3, 1, 50000, d.current),
-        Field(56, u3, 0, 11, d.group as u32),
-        Field(57, u3, 0, 1, d.filter as u32),
-        Field(60, true, 100, 2500, t.basic as u32),
-        Field(62, true, 2500, 30000, t.high as u32),
-        Field(64, true, 10, 150, t.slope1 as u32),
-        Field(66, true, 10, 150, t.slope2 as u32),
-        Field(68, true, 1500, 10000, t.knee as u32),
-        Field(70, true, 10, 50, t.second as u32),
-        Field(72, true, 10, 80, t.fifth as u32),
-        Field(74, o.curve != 0, 200, 4000, o.pickup as u32),
-        Field(76, true, 0, 2, o.curve as u32),
+        Field(12, 0 < v.ends, 1, 15000, v.e0.voltage),
+        Field(16, 0 < v.ends, 1, 50000, v.e0.current),
+        Field(20, 0 < v.ends, 0, 0, u32::from(v.e0.group)),
+        Field(21, 0 < v.ends, 0, 1, u32::from(v.e0.filter)),
+        Field(24, 1 < v.ends, 1, 15000, v.e1.voltage),
+        Field(28, 1 < v.ends, 1, 50000, v.e1.current),
+        Field(32, 1 < v.ends, 0, 11, u32::from(v.e1.group)),
+        Field(33, 1 < v.ends, 0, 1, u32::from(v.e1.filter)),
+        Field(36, 2 < v.ends, 1, 15000, v.e2.voltage),
+        Field(40, 2 < v.ends, 1, 50000, v.e2.current),
+        Field(44, 2 < v.ends, 0, 11, u32::from(v.e2.group)),
+        Field(45, 2 < v.ends, 0, 1, u32::from(v.e2.filter)),
+        Field(48, 3 < v.ends, 1, 15000, v.e3.voltage),
+        Field(52, 3 < v.ends, 1, 50000, v.e3.current),
+        Field(56, 3 < v.ends, 0, 11, u32::from(v.e3.group)),
+        Field(57, 3 < v.ends, 0, 1, u32::from(v.e3.filter)),
+        Field(60, true, 100, 2500, u32::from(v.thresholds.basic)),
+        Field(62, true, 2500, 30000, u32::from(v.thresholds.high)),
+        Field(64, true, 10, 150, u32::from(v.thresholds.slope1)),
+        Field(66, true, 10, 150, u32::from(v.thresholds.slope2)),
+        Field(68, true, 1500, 10000, u32::from(v.thresholds.knee)),
+        Field(70, true, 10, 50, u32::from(v.thresholds.second)),
+        Field(72, true, 10, 80, u32::from(v.thresholds.fifth)),
+        Field(74, v.overcurrent.curve != 0, 200, 4000, u32::from(v.overcurrent.pickup)),
+        Field(76, true, 0, 2, u32::from(v.overcurrent.curve)),
     ]
 }
 

@@ -38,17 +38,15 @@ fn block_of(v: Setting) -> [u8; 512]
     put_end(&mut b, 24, v.e1);
     put_end(&mut b, 36, v.e2);
     put_end(&mut b, 48, v.e3);
-    let t = v.thresholds;
-    put(&mut b, 60, &t.basic.to_le_bytes());
-    put(&mut b, 62, &t.high.to_le_bytes());
-    put(&mut b, 64, &t.slope1.to_le_bytes());
-    put(&mut b, 66, &t.slope2.to_le_bytes());
-    put(&mut b, 68, &t.knee.to_le_bytes());
-    put(&mut b, 70, &t.second.to_le_bytes());
-    put(&mut b, 72, &t.fifth.to_le_bytes());
-    let o = v.overcurrent;
-    put(&mut b, 74, &o.pickup.to_le_bytes());
-    put(&mut b, 76, &[o.curve]);
+    put(&mut b, 60, &v.thresholds.basic.to_le_bytes());
+    put(&mut b, 62, &v.thresholds.high.to_le_bytes());
+    put(&mut b, 64, &v.thresholds.slope1.to_le_bytes());
+    put(&mut b, 66, &v.thresholds.slope2.to_le_bytes());
+    put(&mut b, 68, &v.thresholds.knee.to_le_bytes());
+    put(&mut b, 70, &v.thresholds.second.to_le_bytes());
+    put(&mut b, 72, &v.thresholds.fifth.to_le_bytes());
+    put(&mut b, 74, &v.overcurrent.pickup.to_le_bytes());
+    put(&mut b, 76, &[v.overcurrent.curve]);
     block::seal(b)
 }
 

@@ -1,5 +1,5 @@
 -- `setting::judging::verdict_beside` meets its contract: a refusal of the fields stays, and past them the factors tell.
-use mathlib.Core.Path.{◌≡◌, sym, ◌∙◌}
+use mathlib.Core.Path.{sym, ◌∙◌}
 use mathlib.Core.List.{◌++◌}
 use Rattle.refusal.proofs.Stops.{told_up, refusal_stays, done_goes_on}
 use Rattle.setting.specs.Values.{fields, field_rows, factor_rows, value_rows}
