@@ -31,9 +31,9 @@ fn put_answer<const N: usize>(text: &mut Text<N>, answer: Answer)
             text.put(b" F");
             put_currents(text, 0, 0, 0);
         }
-        Answer::Measured(a, b, c, _) => {
+        Answer::Measured(m, _) => {
             text.put(b" M");
-            put_currents(text, a.reading.d, b.reading.d, c.reading.d);
+            put_currents(text, m.a.reading.d, m.b.reading.d, m.c.reading.d);
         }
     }
 }

@@ -24,7 +24,7 @@ use Rattle.relay.specs.Record.{admissible}
 use Rattle.relay.specs.declared.Answer.{Answer}
 use Rattle.relay.specs.declared.Answer.TheVariants.{Filling, Measured}
 use Rattle.relay.specs.Calls.{trip_now, starts_by, flags_now, events_now, backup_now, reply_now, relay_now}
-use Rattle.relay.specs.CallInput.{trip_after}
+use Rattle.relay.specs.CallInput.{trip_after, measures_of}
 use Rattle.relay.proofs.Admission.{admitted}
 
 module _ (r : Relay) (w : Window) where
@@ -59,15 +59,8 @@ module _ (r : Relay) (w : Window) where
     measured_trip = rw (p, e, full-now)
 
     module _ {b : Ends Timer} (after : b ≡ backup_by r.setting w.values r.backup) where
-      pub measured_reply :
-          ◌≡◌ {A = Outcome Answer}
-          (gives
-          (Measured
-          (record { reading = m.a; latched = t.a.latch })
-          (record { reading = m.b; latched = t.b.latch })
-          (record { reading = m.c; latched = t.c.latch })
-          (trips_of b)))
-          (gives (reply_now r w))
+      pub measured_reply : ◌≡◌ {A = Outcome Answer}
+          (gives (Measured (measures_of m t) (trips_of b))) (gives (reply_now r w))
       unfolding reply_now backup_now readings_of reading_of
       measured_reply = rw (measured_trip, e, after, full-now)
 

@@ -9,6 +9,7 @@ use Rattle.state.specs.declared.Element.{Element}
 use Rattle.state.specs.declared.Window.{Window}
 use Rattle.state.specs.State.{element_after, full}
 use Rattle.relay.specs.declared.Relay.{Relay}
+use Rattle.relay.specs.declared.Measure.{Measure}
 use Rattle.relay.specs.Record.{admissible}
 
 -- a window that holds twelve, and can be measured
@@ -31,3 +32,12 @@ element_by v m e = element_after v.confirm (counts v m.d m.start m.blocked) e
 
 abbrev pub trip_after : Setting → Systems Reading → Systems Element → Systems Element
 trip_after v m t = record { a = element_by v m.a t.a; b = element_by v m.b t.b; c = element_by v m.c t.c }
+
+-- what an answer says of the three systems
+abbrev pub measures_of : Systems Reading → Systems Element → Systems Measure
+measures_of m t =
+    record {
+      a = record { reading = m.a; latched = t.a.latch };
+      b = record { reading = m.b; latched = t.b.latch };
+      c = record { reading = m.c; latched = t.c.latch };
+    }

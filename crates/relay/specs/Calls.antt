@@ -75,14 +75,16 @@ trip_now r w = per_system (element_now r w)
 abbrev pub measure_now : Relay → Window → System → Measure
 measure_now r w l = record { reading = reading_of r.setting w.values l; latched = (element_now r w l).latch }
 
+abbrev pub measures_now : Relay → Window → Systems Measure
+measures_now r w = record { a = measure_now r w sys_a; b = measure_now r w sys_b; c = measure_now r w sys_c }
+
 -- sums and trips of the overcurrent elements: while the window fills they stay (§ Backup overcurrent 6)
 unfoldable pub backup_now : Relay → Window → Ends Timer
 backup_now r w = cond (full w) (backup_by r.setting w.values r.backup) r.backup
 
 -- An accepted set answers Filling with the number held, or Measured (§ The relay record 4), which carries these trips apart from the latches.
 unfoldable pub reply_now : Relay → Window → Answer
-reply_now r w =
-    cond (full w) (Measured (measure_now r w sys_a) (measure_now r w sys_b) (measure_now r w sys_c) (trips_of (backup_now r w))) (Filling w.fill)
+reply_now r w = cond (full w) (Measured (measures_now r w) (trips_of (backup_now r w))) (Filling w.fill)
 
 -- ---- the record after it, with the flags that it raises (§ The register page 2)
 

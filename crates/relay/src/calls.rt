@@ -3,14 +3,15 @@
 ghost use Rattle.std.specs.Prelude.{◌≡◌, Err};
 ghost use Rattle.refusal.specs.Refusals.{gives};
 ghost use Rattle.relay.specs.Calls.{reply_now, relay_now, refused_relay, cleared as cleared_of, Gives, Samples, Resets, Starts};
-ghost use Rattle.relay.specs.CallInput.{element_by, trip_after, FillingNow, FullNow};
+ghost use Rattle.relay.specs.CallInput.{element_by, trip_after, measures_of, FillingNow, FullNow};
 
-use crate::{Answer, Returned, Measure, Relay, accepting, starting};
+use crate::{Answer, Measure, Relay, Returned, accepting, starting};
 use bits::Bits;
 use measuring::{Reading, Readings};
 use refusal::Refusal;
 use setting::{Setting, factors};
 use state::{Element, Trip, Window};
+use systems::Systems;
 
 // The counter and the latch of a system after it was measured.
 fn element_now(v: Setting, m: Reading, e: Element) -> Element
@@ -28,6 +29,19 @@ pub fn trip_after(v: Setting, m: Readings, t: Trip) -> Trip
     ensures { result ≡ trip_after v m t }
 {
     m.map_with(t, |m, e| element_now(v, m, e))
+}
+
+// What an answer says of the three systems.
+fn measures(m: Readings, t: Trip) -> Systems<Measure>
+    ensures { result ≡ measures_of m t }
+{
+    m.map_with(
+        t,
+        |reading, e| Measure {
+            reading,
+            latched: e.latch,
+        },
+    )
 }
 
 // A set filed in a window that is not full yet: the number held, counters cleared; overcurrent sums stay.
@@ -58,20 +72,8 @@ fn measured(r: Relay, w: Window) -> Returned<Answer>
     let backup = full.backup;
     let trip = trip_after(v, m, r.trip);
     let events = page::noting::events_after(v, r.window, r.trip, r.events, m, trip);
-    let of_a = Measure {
-        reading: m.a,
-        latched: trip.a.latch,
-    };
-    let of_b = Measure {
-        reading: m.b,
-        latched: trip.b.latch,
-    };
-    let of_c = Measure {
-        reading: m.c,
-        latched: trip.c.latch,
-    };
     Returned {
-        answer: Ok(Answer::Measured(of_a, of_b, of_c, overcurrent::tripped(backup))),
+        answer: Ok(Answer::Measured(measures(m, trip), overcurrent::tripped(backup))),
         relay: Relay {
             window: w,
             trip,

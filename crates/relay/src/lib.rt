@@ -13,6 +13,7 @@ use page::Events;
 use refusal::Refusal;
 use setting::Setting;
 use state::{Trip, Window};
+use systems::Systems;
 
 // The relay record.
 #[derive(Clone, Copy)]
@@ -36,7 +37,7 @@ pub struct Measure {
 #[derive(Clone, Copy)]
 pub enum Answer {
     Filling(u8),
-    Measured(Measure, Measure, Measure, Trips),
+    Measured(Systems<Measure>, Trips),
 }
 
 // The answer to a call, or its refusal, and the record that comes back: blank where a start is refused.

@@ -4,7 +4,7 @@ ghost use Rattle.std.specs.Prelude.{◌≡◌, ◌||◌, eqb};
 ghost use Rattle.refusal.specs.Refusals.{outcome_of};
 ghost use Rattle.relay.specs.Page.{read_reply, resets as resets_of, written as written_of, Reads, Writes};
 
-use crate::{Returned, Relay, accepting, calls};
+use crate::{Relay, Returned, accepting, calls};
 use refusal::Refusal;
 
 // 1 written to byte 7.

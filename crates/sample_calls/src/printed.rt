@@ -29,9 +29,9 @@ fn print_measure(m: Measure) {
 pub fn print_answer(answer: Result<Answer, Refusal>, sums: Backup) {
     match answer {
         Ok(Answer::Filling(n)) => print(format_args!("F {n}\n")),
-        Ok(Answer::Measured(a, b, c, t)) => {
+        Ok(Answer::Measured(ms, t)) => {
             print("M");
-            for m in [a, b, c] {
+            for m in [ms.a, ms.b, ms.c] {
                 print_measure(m);
             }
             print_trips(t);

@@ -25,7 +25,7 @@ use Rattle.relay.specs.declared.Measure.{Measure}
 use Rattle.relay.specs.declared.Answer.{Answer}
 use Rattle.relay.specs.declared.Answer.TheVariants.{Filling, Measured}
 use Rattle.relay.specs.declared.Relay.{Relay}
-use Rattle.relay.specs.Calls.{accepted, counting, window_after, measure_now, backup_now, reply_now, relay_now, sample_reply}
+use Rattle.relay.specs.Calls.{accepted, counting, window_after, measures_now, backup_now, reply_now, relay_now, sample_reply}
 use Rattle.relay.specs.Page.{resets}
 use Rattle.relay.specs.Lists.{Call, sample, reset, read, write, after, Every}
 use Rattle.relay.proofs.Kept.{Valid, Step, files, declines, step, valid_after}
@@ -46,7 +46,7 @@ Counting v Fault =
     counts v (differential v win l) (start v win l) (blocked v win l) ≡ true
 
 reading_is : {v : Setting} (r : Relay) (w : Window) → r.setting ≡ v → (l : System) →
-    (of_system (measure_now r w sys_a) (measure_now r w sys_b) (measure_now r w sys_c) l).reading ≡ reading_of v w.values l
+    (of_system (measures_now r w) l).reading ≡ reading_of v w.values l
 reading_is r w same sys_a = rw same
 reading_is r w same sys_b = rw same
 reading_is r w same sys_c = rw same
@@ -61,7 +61,7 @@ module _ (v : Setting) (Fault : System → List ℤ → Measure → Type 0) (sur
   measured_counts r w same m = by (full w) refl m
     where
       answer : Bool → Answer
-      answer b = cond b (Measured (measure_now r w sys_a) (measure_now r w sys_b) (measure_now r w sys_c) (trips_of (backup_now r w))) (Filling w.fill)
+      answer b = cond b (Measured (measures_now r w) (trips_of (backup_now r w))) (Filling w.fill)
 
       by : (b : Bool) → full w ≡ b → MeasuredAs (Fault l w.values) l (gives (answer b)) → counting v w l ≡ true
       by true e m = rw e (sure l w.values _ (reading_is r w same l) m)

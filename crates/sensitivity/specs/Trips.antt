@@ -5,6 +5,7 @@ use Rattle.refusal.specs.Refusals.{Outcome, gives, declines}
 use Rattle.setting.specs.declared.Setting.{Setting}
 use Rattle.setting.specs.Values.{startable}
 use Rattle.matching.specs.Sets.{System, sys_a, sys_b, sys_c}
+use Rattle.systems.specs.declared.Systems.{Systems}
 use Rattle.characteristic.specs.Characteristic.{second_on, fifth_on}
 use Rattle.measuring.specs.OneEnd.{FedFrom}
 use Rattle.relay.specs.declared.Measure.{Measure}
@@ -36,14 +37,14 @@ HighSetFault v l win m = v.thresholds.high < m.reading.d
 
 -- ---- calls that measure such a fault
 
-abbrev pub of_system : (a b c : Measure) → System → Measure
-of_system a b c sys_a = a
-of_system a b c sys_b = b
-of_system a b c sys_c = c
+abbrev pub of_system : Systems Measure → System → Measure
+of_system ms sys_a = ms.a
+of_system ms sys_b = ms.b
+of_system ms sys_c = ms.c
 
 -- the answer is Measured, and the system's measure in it is as F says; Filling and a refusal are not
 abbrev pub MeasuredAs : (F : Measure → Type 0) → System → Outcome Answer → Type 0
-MeasuredAs F l (gives (Measured a b c trips)) = F (of_system a b c l)
+MeasuredAs F l (gives (Measured ms trips)) = F (of_system ms l)
 MeasuredAs F l (gives (Filling n)) = ⊥
 MeasuredAs F l (declines told) = ⊥
 

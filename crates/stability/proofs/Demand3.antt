@@ -42,13 +42,12 @@ use Rattle.page.specs.Events.{new_flags, refused_set, raised, written}
 use Rattle.page.specs.Page.{starts_of, nothing}
 use Rattle.page.proofs.EventLaws.{no_bit, raised_none, raised_flags, written_lower}
 use Rattle.state.proofs.Elements.{per_system_lem, no_latch_after}
-use Rattle.relay.specs.Calls.{accepted, counting, element_now, trip_now, measure_now, reply_now, starts_by, flags_now, events_now, relay_now, refused_relay}
+use Rattle.relay.specs.Calls.{accepted, counting, element_now, trip_now, measure_now, measures_now, reply_now, starts_by, flags_now, events_now, relay_now, refused_relay}
 use Rattle.relay.specs.declared.Answer.TheVariants.{Filling, Measured}
 use Rattle.relay.specs.Calls.{backup_now, cleared}
 use Rattle.relay.specs.Page.{beyond, fixed}
 use Rattle.matching.proofs.Total.{total_bound}
 use Rattle.relay.proofs.Ready.{reach}
-use Rattle.relay.specs.declared.Measure.{Measure}
 use Rattle.relay.specs.declared.Relay.{Relay}
 use Rattle.relay.specs.Record.{fresh, with_events}
 use Rattle.relay.specs.Lists.{Call}
@@ -179,10 +178,8 @@ module _ (v : Setting) (s : T (startable v)) where
       unfolding reply_now
       calm_reply = by (full (held ws)) refl
         where
-          m : System → Measure
-          m = measure_now r (held ws)
-
-          by : (b : Bool) → full (held ws) ≡ b → CalmReply v (cond b (Measured (m sys_a) (m sys_b) (m sys_c) (trips_of (backup_now r (held ws)))) (Filling (held ws).fill))
+          by : (b : Bool) → full (held ws) ≡ b →
+              CalmReply v (cond b (Measured (measures_now r (held ws)) (trips_of (backup_now r (held ws)))) (Filling (held ws).fill))
           by false e = tt
           by true e = (calm e sys_a, calm e sys_b, calm e sys_c)
 

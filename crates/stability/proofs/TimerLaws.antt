@@ -29,7 +29,7 @@ use Rattle.state.specs.State.{full}
 use Rattle.relay.specs.declared.Answer.TheVariants.{Filling, Measured}
 use Rattle.relay.specs.declared.Relay.{Relay}
 use Rattle.relay.specs.Record.{fresh}
-use Rattle.relay.specs.Calls.{window_after, backup_now, measure_now, reply_now, relay_now, refused_relay, cleared}
+use Rattle.relay.specs.Calls.{window_after, backup_now, measures_now, reply_now, relay_now, refused_relay, cleared}
 use Rattle.relay.specs.Lists.{Call, after, Every}
 use Rattle.relay.proofs.Admission.{is_T}
 use Rattle.relay.proofs.Kept.{Valid, Step, step, files, declines, clears, reads, resets_by_page, writes, fresh_admissible, valid_after}
@@ -149,8 +149,7 @@ module _ (v : Setting) (s : T (startable v)) where
   untripped r w e = by (full w)
     where
       by : (b : Bool) →
-          UntrippedReply
-          (gives (cond b (Measured (measure_now r w sys_a) (measure_now r w sys_b) (measure_now r w sys_c) (trips_of (backup_now r w))) (Filling w.fill)))
+          UntrippedReply (gives (cond b (Measured (measures_now r w) (trips_of (backup_now r w))) (Filling w.fill)))
       by true = rw e refl
       by false = tt
 

@@ -34,7 +34,7 @@ pub record Calm (v : Setting) (m : Measure) : Type 0 where
 
 abbrev pub CalmReply : Setting → Answer → Type 0
 CalmReply v (Filling n) = Unit {0}
-CalmReply v (Measured a b c trips) = Calm v a × Calm v b × Calm v c
+CalmReply v (Measured ms trips) = Calm v ms.a × Calm v ms.b × Calm v ms.c
 
 -- refusal 12 does not arise, and something holds of what is given
 abbrev pub Without12 : {A : Type 0} → (OfGiven : A → Type 0) → Outcome A → Type 0

@@ -89,7 +89,7 @@ Unsummed r = r.backup ≡ per_end (λ z. idle)
 
 abbrev pub UntrippedReply : Outcome Answer → Type 0
 UntrippedReply (gives (Filling n)) = Unit {0}
-UntrippedReply (gives (Measured a b c trips)) = trips ≡ trips_of (per_end (λ z. idle))
+UntrippedReply (gives (Measured ms trips)) = trips ≡ trips_of (per_end (λ z. idle))
 UntrippedReply (declines told) = Unit {0}
 
 abbrev pub UntrippedCall : Relay → Call → Type 0

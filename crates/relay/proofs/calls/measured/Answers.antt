@@ -22,6 +22,6 @@ returns c =
     let t = c.trip_after-trip.ensures in
     let full = c.requires.window.full in
     record {
-      reply = rw c.tripped.ensures (measured_reply r w full m.readings t m.backup);
+      reply = rw (c.measures.ensures, c.tripped.ensures) (measured_reply r w full m.readings t m.backup);
       relay = measured_relay r w full m.readings t m.backup c.events_after-events.ensures;
     }
