@@ -104,14 +104,13 @@ pub fn weights(v: Setting, ks: [i64; 4]) -> [i64; 12]
     requires { FactorsInput v ks }
     ensures { result ≡ weights_of v }
 {
-    let mut ws = [0; 12];
-    for z in 0..4 {
-        let w = weights_at(v, ks, z as u8);
-        ws[3 * z] = w.p;
-        ws[3 * z + 1] = w.n;
-        ws[3 * z + 2] = w.q;
-    }
-    ws
+    let z0 = weights_at(v, ks, 0);
+    let z1 = weights_at(v, ks, 1);
+    let z2 = weights_at(v, ks, 2);
+    let z3 = weights_at(v, ks, 3);
+    [
+        z0.p, z0.n, z0.q, z1.p, z1.n, z1.q, z2.p, z2.n, z2.q, z3.p, z3.n, z3.q,
+    ]
 }
 
 // The matched number of a system: its three samples by the weights, to the nearest, rounded once, a

@@ -1,23 +1,36 @@
-use Rattle.std.proofs.Common.{rules, ◌≡◌, ◌<◌, ℕ, ◌+◌, ◌-◌, ◌*◌, ◌≤◌, length, ◌/◌, ◌%◌, Bool, true, false, nat_eq, nat_lt, List, [], ◌∷◌, ◌++◌, slice_index_or, slice_set, bit_and, bit_or, Fits, w8, w32, w64, Bor, MutBor}
-use Rattle.matching.specs.Matching.{even}
-use Rattle.matching.specs.Matching.{operation as operation_of}
-use Rattle.matching.specs.Matching.{operated as operated_of}
-use Rattle.matching.specs.Sets.{from_next}
-use Rattle.matching.specs.Sets.{numbers as numbers_of}
-use Rattle.matching.specs.Weights.{parts, weights_at, weights_of, weighed, weighed_trio}
-use Rattle.matching.specs.MatchingInput.{OperationInput, OperatedInput, FactorsInput, WeighedInput, EndInput, SetInput}
-use Rattle.matching.specs.Bank.{TotalBound, MatchedBound}
-use Rattle.matching.specs.Neutral.{Widened, NeutralBefore}
+-- `matching::weights` meets its contract: the weights of the four ends, one after the other, are the twelve.
+use mir.Syntax.{w64}
+use Rattle.lists.specs.Lists.{up_to}
+use Rattle.integer.proofs.Machine.{back_ok}
+use Rattle.matching.specs.Weights.{weights_at, weights_of}
 use Rattle.matching.proofs.weights.Goals as goal
 
--- src/lib.rt:108:5
-pub loop-z-init : goal.loop-z-init
-loop-z-init c = ?
-
--- src/lib.rt:108:5
-pub loop-z-preserved : goal.loop-z-preserved
-loop-z-preserved c = ?
-
--- src/lib.rt:103:1
 pub returns : goal.returns
-returns c = ?
+unfolding weights_of weights_at up_to
+returns c =
+    let t4 = c.struct_told-4-1.given in
+    let t3 = c.struct_told-3-1.given in
+    let t2 = c.struct_told-2-1.given in
+    let t1 = c.struct_told-1.given in
+    let m4 = c.weights_at-z3 in
+    let m3 = c.weights_at-z2 in
+    let m2 = c.weights_at-z1 in
+    let m1 = c.weights_at-z0 in
+    rw (
+      back_ok w64 m1.result.p t1.0.1,
+      back_ok w64 m1.result.n t1.1.0.1,
+      back_ok w64 m1.result.q t1.1.1.0.1,
+      back_ok w64 m2.result.p t2.0.1,
+      back_ok w64 m2.result.n t2.1.0.1,
+      back_ok w64 m2.result.q t2.1.1.0.1,
+      back_ok w64 m3.result.p t3.0.1,
+      back_ok w64 m3.result.n t3.1.0.1,
+      back_ok w64 m3.result.q t3.1.1.0.1,
+      back_ok w64 m4.result.p t4.0.1,
+      back_ok w64 m4.result.n t4.1.0.1,
+      back_ok w64 m4.result.q t4.1.1.0.1,
+      m1.ensures,
+      m2.ensures,
+      m3.ensures,
+      m4.ensures,
+    )
