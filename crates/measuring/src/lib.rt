@@ -227,10 +227,10 @@ pub fn started(v: Setting, win: &[i32], y: usize) -> bool
 }
 
 // Whether all systems are blocked: with common blocking on, when any holds back others.
-fn common(v: Setting, a: Held, b: Held, c: Held) -> bool
-    ensures { result ≡ (common_on v && (a.others || (b.others || c.others))) }
+fn common(v: Setting, h: Systems<Held>) -> bool
+    ensures { result ≡ (common_on v && (h.a.others || (h.b.others || h.c.others))) }
 {
-    v.flags / 4 % 2 == 1 && (a.others || b.others || c.others)
+    v.flags / 4 % 2 == 1 && (h.a.others || h.b.others || h.c.others)
 }
 
 // What is measured of a system, from its currents, whether it has harmonics, and whether all are blocked.
@@ -249,19 +249,13 @@ fn system_reading(v: Setting, c: Currents, own: bool, any: bool) -> Reading
 }
 
 // What is measured of the three systems, from their currents.
-fn readings_by(v: Setting, a: Currents, b: Currents, c: Currents) -> Readings
+fn readings_by(v: Setting, c: Systems<Currents>) -> Readings
     requires { v.thresholds.basic ≤ 2 * v.thresholds.knee }
-    ensures { ReadingsBy v a b c result }
+    ensures { ReadingsBy v c.a c.b c.c result }
 {
-    let by_a = characteristic::blocking(v, a);
-    let by_b = characteristic::blocking(v, b);
-    let by_c = characteristic::blocking(v, c);
-    let any = common(v, by_a, by_b, by_c);
-    Readings {
-        a: system_reading(v, a, by_a.own, any),
-        b: system_reading(v, b, by_b.own, any),
-        c: system_reading(v, c, by_c.own, any),
-    }
+    let held = c.map(|c| characteristic::blocking(v, c));
+    let any = common(v, held);
+    c.map_with(held, |c, h| system_reading(v, c, h.own, any))
 }
 
 // What is measured of the three systems over a full window, and the ends' amplitudes where they are asked for. Those that R is made of are taken once.
@@ -271,11 +265,13 @@ pub fn measure_ends(v: Setting, win: &[i32], asked: bool) -> WithEnds
 {
     let f = Folded::new(win, v.ends);
     let amplitudes = f.amplitudes(0, 1, f.taken(asked));
-    let a = f.currents(0, &amplitudes);
-    let b = f.currents(1, &amplitudes);
-    let c = f.currents(2, &amplitudes);
+    let c = Systems {
+        a: f.currents(0, &amplitudes),
+        b: f.currents(1, &amplitudes),
+        c: f.currents(2, &amplitudes),
+    };
     WithEnds {
-        readings: readings_by(v, a, b, c),
+        readings: readings_by(v, c),
         amplitudes,
     }
 }

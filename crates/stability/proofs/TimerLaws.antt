@@ -14,7 +14,6 @@ use Rattle.refusal.specs.Refusals.{gives}
 use Rattle.setting.specs.declared.Setting.{Setting}
 use Rattle.setting.specs.Values.{startable}
 use Rattle.setting.proofs.LimitLaws.{startable_is, timers_on}
-use Rattle.matching.specs.Sets.{sys_a, sys_b, sys_c}
 use Rattle.inverse_time.specs.declared.Timer.{Timer}
 use Rattle.inverse_time.specs.Timers.{multiple, most_sum, timer_after, idle}
 use Rattle.overcurrent.specs.Ends.{timer_of, per_end, trips_of}

@@ -1,5 +1,6 @@
 -- `measuring::readings_by` meets its contract: for a window that has these currents, what a system's harmonics hold back is that of the
 -- definitions, and so is its reading.
+use borrow.Author.Rules.{rules}
 use mathlib.Core.Path.{◌≡◌, ◌∙◌}
 use mathlib.Core.Bool.{Bool, ◌&&◌, ◌||◌}
 use mathlib.Core.List.{List}
@@ -38,15 +39,12 @@ pub returns : goal.returns
 unfolding readings_of
 returns c win a b d =
     let v = c.args.v in
-    let is =
-    blocked_is v win
-    (others_is v win sys_a a c.blocking-by_a.ensures)
-    (others_is v win sys_b b c.blocking-by_b.ensures)
-    (others_is v win sys_c d c.blocking-by_c.ensures)
-    c.common-any.ensures
-    in
-    rw (
-      reading_is v win sys_a a (is sys_a _ (own_is v win sys_a a c.blocking-by_a.ensures)) c.system_reading.ensures,
-      reading_is v win sys_b b (is sys_b _ (own_is v win sys_b b c.blocking-by_b.ensures)) c.system_reading-2.ensures,
-      reading_is v win sys_c d (is sys_c _ (own_is v win sys_c d c.blocking-by_c.ensures)) c.system_reading-3.ensures,
-    )
+    let of_a : c.map-held.result.a ≡ held_by v c.args.c.a.d c.args.c.a.h2 c.args.c.a.h5 = search rules in
+    let of_b : c.map-held.result.b ≡ held_by v c.args.c.b.d c.args.c.b.h2 c.args.c.b.h5 = search rules in
+    let of_c : c.map-held.result.c ≡ held_by v c.args.c.c.d c.args.c.c.h2 c.args.c.c.h5 = search rules in
+    let is = blocked_is v win (others_is v win sys_a a of_a) (others_is v win sys_b b of_b) (others_is v win sys_c d of_c) c.common-any.ensures in
+    let now = c.map_with.result in
+    let a_is : now.a ≡ reading_of v win sys_a = reading_is v win sys_a a (is sys_a _ (own_is v win sys_a a of_a)) (search rules) in
+    let b_is : now.b ≡ reading_of v win sys_b = reading_is v win sys_b b (is sys_b _ (own_is v win sys_b b of_b)) (search rules) in
+    let c_is : now.c ≡ reading_of v win sys_c = reading_is v win sys_c d (is sys_c _ (own_is v win sys_c d of_c)) (search rules) in
+    λ i. record { a = a_is i; b = b_is i; c = c_is i }
