@@ -156,13 +156,14 @@ pub fn numbers(v: Setting, ws: [i64; 12], set: &[i16]) -> [i32; 12]
     requires { SetInput v ws set.now }
     ensures { result ≡ numbers_of v set.now }
 {
-    let z0 = matched_at(v.ends, ws, 0, set);
-    let z1 = matched_at(v.ends, ws, 1, set);
-    let z2 = matched_at(v.ends, ws, 2, set);
-    let z3 = matched_at(v.ends, ws, 3, set);
-    [
-        z0.a, z0.b, z0.c, z1.a, z1.b, z1.c, z2.a, z2.b, z2.c, z3.a, z3.b, z3.c,
-    ]
+    let mut h = [0; 12];
+    for z in 0..4 {
+        let t = matched_at(v.ends, ws, z as u8, set);
+        h[3 * z] = t.a;
+        h[3 * z + 1] = t.b;
+        h[3 * z + 2] = t.c;
+    }
+    h
 }
 
 // The bounds of a healthy set and of any accepted one: no code, the statements and their proofs.

@@ -1,23 +1,32 @@
-use Rattle.std.proofs.Common.{rules, ◌≡◌, ◌<◌, ℕ, ◌+◌, ◌-◌, ◌*◌, ◌≤◌, length, ◌/◌, ◌%◌, Bool, true, false, nat_eq, nat_lt, List, [], ◌∷◌, ◌++◌, slice_index_or, slice_set, bit_and, bit_or, Fits, w8, w32, w64, Bor, MutBor}
-use Rattle.matching.specs.Matching.{even}
-use Rattle.matching.specs.Matching.{operation as operation_of}
-use Rattle.matching.specs.Matching.{operated as operated_of}
-use Rattle.matching.specs.Sets.{from_next}
-use Rattle.matching.specs.Sets.{numbers as numbers_of}
-use Rattle.matching.specs.Weights.{parts, weights_at, weights_of, weighed, weighed_trio}
-use Rattle.matching.specs.MatchingInput.{OperationInput, OperatedInput, FactorsInput, WeighedInput, EndInput, SetInput}
-use Rattle.matching.specs.Bank.{TotalBound, MatchedBound}
-use Rattle.matching.specs.Neutral.{Widened, NeutralBefore}
+-- `matching::weights` meets its contract. The loop's invariant: the places of the ends before z hold their weights.
+use mathlib.Core.Path.{◌≡◌, refl}
+use native.Mathlib.Omega.{arith}
+use borrow.Author.Rules.{rules}
+use lib.IntN.{ℤ}
+use mir.Syntax.{w64}
+use mir.Val.{to_z, of_z}
+use Prim.Native.Nat.{ℕ}
+use Rattle.lists.proofs.Fill.{filled_none, filled_all}
+use Rattle.matching.specs.Weights.{single, weight_of, weights_at, weights_of}
+use Rattle.matching.proofs.Threes.{three_more, end_place}
 use Rattle.matching.proofs.weights.Goals as goal
 
--- src/lib.rt:108:5
 pub loop-z-init : goal.loop-z-init
-loop-z-init c = ?
+loop-z-init c = filled_none refl
 
--- src/lib.rt:108:5
 pub loop-z-preserved : goal.loop-z-preserved
-loop-z-preserved c = ?
+unfolding weights_at
+loop-z-preserved c =
+    let z = c.loop-z.z in
+    let w = c.weights_at-w in
+    let p : to_z w64 (of_z w64 w.result.p) ≡ w.result.p = search rules in
+    let n : to_z w64 (of_z w64 w.result.n) ≡ w.result.n = search rules in
+    let q : to_z w64 (of_z w64 w.result.q) ≡ w.result.q = search rules in
+    let weight : ℕ → ℕ → ℤ = λ z y. weight_of c.args.v z (single y) in
+    rw (p, n, q, w.ensures)
+    (three_more z c.loop-z.invariant (omega arith) (end_place weight z 0 _ (omega arith) (omega arith)) (end_place weight z 1 _ refl (omega arith))
+    (end_place weight z 2 _ refl (omega arith)))
 
--- src/lib.rt:103:1
 pub returns : goal.returns
-returns c = ?
+unfolding weights_of
+returns c = filled_all c.loop-z.invariant (omega arith)

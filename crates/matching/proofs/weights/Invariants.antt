@@ -1,14 +1,9 @@
-use Rattle.std.proofs.Common.{◌≡◌, ◌<◌, ℕ, ◌+◌, ◌-◌, ◌*◌, ◌≤◌, length}
-use Rattle.matching.specs.Matching.{even}
-use Rattle.matching.specs.Matching.{operation as operation_of}
-use Rattle.matching.specs.Matching.{operated as operated_of}
-use Rattle.matching.specs.Sets.{from_next}
-use Rattle.matching.specs.Sets.{numbers as numbers_of}
-use Rattle.matching.specs.Weights.{parts, weights_at, weights_of, weighed, weighed_trio}
-use Rattle.matching.specs.MatchingInput.{OperationInput, OperatedInput, FactorsInput, WeighedInput, EndInput, SetInput}
-use Rattle.matching.specs.Bank.{TotalBound, MatchedBound}
-use Rattle.matching.specs.Neutral.{Widened, NeutralBefore}
+-- `matching::weights` meets its contract. The loop's invariant: the places of the ends before z hold their weights.
+use Prim.Native.Nat.{◌*◌, ◌/◌, ◌%◌}
+use lib.IntN.{pos}
+use Rattle.lists.proofs.Fill.{Filled}
+use Rattle.matching.specs.Weights.{single, weight_of}
 use Rattle.matching.proofs.weights.Given as goal
 
 abbrev pub invariant-loop-z : goal.invariant-loop-z
-invariant-loop-z l = ?
+invariant-loop-z l = Filled (pos 0) 12 (λ j. weight_of l.fn.v (j / 3) (single (j % 3))) l.ws (3 * l.z)
