@@ -1,4 +1,5 @@
 -- From linear forms of the samples to the bounds of Total.antt and the negated numbers of Negated.antt, which other crates cite.
+mod Threes
 mod Bits
 mod Forms
 mod Rows

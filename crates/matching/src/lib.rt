@@ -104,13 +104,14 @@ pub fn weights(v: Setting, ks: [i64; 4]) -> [i64; 12]
     requires { FactorsInput v ks }
     ensures { result ≡ weights_of v }
 {
-    let z0 = weights_at(v, ks, 0);
-    let z1 = weights_at(v, ks, 1);
-    let z2 = weights_at(v, ks, 2);
-    let z3 = weights_at(v, ks, 3);
-    [
-        z0.p, z0.n, z0.q, z1.p, z1.n, z1.q, z2.p, z2.n, z2.q, z3.p, z3.n, z3.q,
-    ]
+    let mut ws = [0; 12];
+    for z in 0..4 {
+        let w = weights_at(v, ks, z as u8);
+        ws[3 * z] = w.p;
+        ws[3 * z + 1] = w.n;
+        ws[3 * z + 2] = w.q;
+    }
+    ws
 }
 
 // The matched number of a system: its three samples by the weights, to the nearest, rounded once, a
@@ -155,13 +156,14 @@ pub fn numbers(v: Setting, ws: [i64; 12], set: &[i16]) -> [i32; 12]
     requires { SetInput v ws set.now }
     ensures { result ≡ numbers_of v set.now }
 {
-    let z0 = matched_at(v.ends, ws, 0, set);
-    let z1 = matched_at(v.ends, ws, 1, set);
-    let z2 = matched_at(v.ends, ws, 2, set);
-    let z3 = matched_at(v.ends, ws, 3, set);
-    [
-        z0.a, z0.b, z0.c, z1.a, z1.b, z1.c, z2.a, z2.b, z2.c, z3.a, z3.b, z3.c,
-    ]
+    let mut h = [0; 12];
+    for z in 0..4 {
+        let t = matched_at(v.ends, ws, z as u8, set);
+        h[3 * z] = t.a;
+        h[3 * z + 1] = t.b;
+        h[3 * z + 2] = t.c;
+    }
+    h
 }
 
 // The bounds of a healthy set and of any accepted one: no code, the statements and their proofs.

@@ -1,23 +1,24 @@
 -- `integer::nearest_away` meets its contract: each number on the way fits, by the bounds on a and b, and is read back from its bits as it is.
 use borrow.Author.Rules.{rules}
 use native.Mathlib.Omega.{arith}
-use Prim.Native.Nat.{◌*◌, ◌^◌}
+use Prim.Native.Nat.{ℕ, ◌*◌, ◌^◌}
 use lib.IntN.{ℤ, pos, ◌+ℤ◌, ◌-ℤ◌, ◌*ℤ◌}
 use lib.Signed.{quot_z}
 use mir.Syntax.{w64}
 use mir.Val.{SFits, to_z}
 use Rattle.integer.proofs.Reading.{ints, arithℤ, ◌⇒◌}
 use Rattle.integer.proofs.Machine.{back, quot_within}
+use Rattle.integer.specs.Nearest.{Divides}
 use Rattle.integer.specs.Within.{◌within◌}
 use Rattle.integer.proofs.Rounding.{Beside, below, above, beside_within, away_is}
 use Rattle.integer.proofs.nearest_away.Goals as goal
-use Rattle.integer.proofs.nearest_away.Goals.{Joined-a-lt0, Start, then-a-lt0, else-a-lt0}
+use Rattle.integer.proofs.nearest_away.Goals.{Joined-a-lt0, then-a-lt0, else-a-lt0}
 
-pub overflow_cast-d : goal.overflow_cast-d
-overflow_cast-d c = search rules
+divisor_fits : {a : ℤ} {b : ℕ} → Divides a b → SFits w64 (pos b)
+divisor_fits r = let few = r.few in simp ints (omega arithℤ)
 
 pub overflow_sub-half : goal.overflow_sub-half
-overflow_sub-half c = rw (back (overflow_cast-d (goal.at.overflow_sub-half c).Start)) (simp ints (omega arithℤ))
+overflow_sub-half c = rw (back (divisor_fits c.requires)) (simp ints (omega arithℤ))
 
 beside : (c : Joined-a-lt0) → Beside c.args.a c.args.b (to_z w64 c.if-a-lt0.half-bits)
 beside c =
@@ -25,10 +26,10 @@ beside c =
       | then-a-lt0 w ↦
           let test = rw (back c.ranges.a) at w.if-a-lt0.true in
           let opposite : SFits w64 (pos 0 -ℤ pos c.args.b) = simp ints (omega arithℤ) in
-          rw (w.half-is, back (overflow_cast-d c.before), back opposite) (below (test ⇒ simp ints (omega arith)))
+          rw (w.half-is, back (divisor_fits c.requires), back opposite) (below (test ⇒ simp ints (omega arith)))
       | else-a-lt0 w ↦
           let test = rw (back c.ranges.a) at w.if-a-lt0.false in
-          rw (w.half-is, back (overflow_cast-d c.before)) (above (test ⇒ simp ints (omega arith)))
+          rw (w.half-is, back (divisor_fits c.requires)) (above (test ⇒ simp ints (omega arith)))
     ]
 
 pub overflow_mul-result : goal.overflow_mul-result
@@ -48,14 +49,21 @@ pub overflow_add-result : goal.overflow_add-result
 overflow_add-result c = rw (back (overflow_mul-result c), back c.ranges.a) (t_small c ⇒ simp ints (omega arith))
 
 pub overflow_mul-result-2 : goal.overflow_mul-result-2
-overflow_mul-result-2 c = rw (back (overflow_cast-d (goal.at.overflow_mul-result-2 c).Start)) (simp ints (omega arithℤ))
+overflow_mul-result-2 c = rw (back (divisor_fits c.requires)) (simp ints (omega arithℤ))
 
 pub nonzero_div-result : goal.nonzero_div-result
 nonzero_div-result c =
-    let s = c in
-    rw (back (overflow_add-result c), back (overflow_mul-result c), back (overflow_mul-result-2 c), back s.ranges.a, back (overflow_cast-d (goal.at.nonzero_div-result c).Start)) (omega arith, q_fits c)
+    rw (back (overflow_add-result c), back (overflow_mul-result c), back (overflow_mul-result-2 c), back c.ranges.a, back (divisor_fits c.requires))
+    (omega arith, q_fits c)
 
 pub returns : goal.returns
 returns c =
-    let s = c in
-    rw (back (overflow_add-result c), back (overflow_mul-result c), back (overflow_mul-result-2 c), back s.ranges.a, back (overflow_cast-d (goal.at.returns c).Start), back (q_fits c)) (away_is (beside c))
+    rw (
+      back (overflow_add-result c),
+      back (overflow_mul-result c),
+      back (overflow_mul-result-2 c),
+      back c.ranges.a,
+      back (divisor_fits c.requires),
+      back (q_fits c),
+    )
+    (away_is (beside c))

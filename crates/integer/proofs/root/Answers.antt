@@ -10,7 +10,6 @@ use Rattle.integer.proofs.Newton.{square_pos, step_above, step_below, turns_done
 use Rattle.integer.proofs.FewTurns.{few_turns}
 use Rattle.integer.proofs.root.Goals as goal
 use Rattle.integer.proofs.root.Invariants.{Above}
-use Rattle.integer.proofs.root.Goals.{In-loop-r}
 
 -- a turn: the count grows with the step
 turned : (x r count raised : ℕ) → x < r * r → Above x r count → raised ≡ count + 1 → Above x (step x r) raised
@@ -40,27 +39,23 @@ loop-r-init c =
 pub overflow_mul-r : goal.overflow_mul-r
 overflow_mul-r c = let small = c.loop-r.invariant.small in record { fits = omega (arith, mul-le-mul small small) }
 
--- in the loop, r is above the root
-above : (c : In-loop-r) → c.args.x < c.loop-r.r * c.loop-r.r
-above c = omega (arith, c.loop-r-test.true)
-
 pub step-r-requires : goal.step-r-requires
 step-r-requires c =
-    let some = square_pos _ _ (above c) in
-    (some, omega (arith, (div-lt_iff_lt-mul some).1 (above c), c.loop-r.invariant.small))
+    let above : c.args.x < c.loop-r.r * c.loop-r.r = omega arith in
+    let some = square_pos _ _ above in
+    (some, omega (arith, (div-lt_iff_lt-mul some).1 above, c.loop-r.invariant.small))
 
 pub overflow_add-turns : goal.overflow_add-turns
 overflow_add-turns c =
-    let at = c in
-    let x = at.args.x in
-    let more = turns_more x at.loop-r.r (above (goal.at.overflow_add-turns c).In-loop-r) in
-    record { fits = omega (arith, more, at.loop-r.invariant.counted, few_turns.few x at.ranges.x.fits) }
+    let x = c.args.x in
+    let more = turns_more x c.loop-r.r (omega arith) in
+    record { fits = omega (arith, more, c.loop-r.invariant.counted, few_turns.few x c.ranges.x.fits) }
 
 pub loop-r-smaller : goal.loop-r-smaller
-loop-r-smaller c = rw c.step-r.ensures (step_below _ _ (above (goal.at.loop-r-smaller c).In-loop-r))
+loop-r-smaller c = rw c.step-r.ensures (step_below _ _ (omega arith))
 
 pub loop-r-preserved : goal.loop-r-preserved
-loop-r-preserved c = rw c.step-r.ensures (turned _ _ _ _ (above (goal.at.loop-r-preserved c).In-loop-r) c.loop-r.invariant (omega arith))
+loop-r-preserved c = rw c.step-r.ensures (turned _ _ _ _ (omega arith) c.loop-r.invariant (omega arith))
 
 pub returns : goal.returns
 returns c =

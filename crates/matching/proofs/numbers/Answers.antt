@@ -1,51 +1,36 @@
--- `matching::numbers` meets its contract: the four trios by weights are those of the definition, and one after the other they are the twelve places.
-use lib.Dec.{lit≤}
+-- `matching::numbers` meets its contract. The loop's invariant: the places of the ends before z hold their numbers, which are those of the definition.
+use mathlib.Core.Path.{◌≡◌, refl}
+use native.Mathlib.Omega.{arith}
+use borrow.Author.Rules.{rules}
+use lib.IntN.{ℤ}
 use mir.Syntax.{w32}
-use Rattle.lists.specs.Lists.{up_to}
-use Rattle.integer.proofs.Machine.{back_ok}
-use Rattle.matching.specs.Sets.{trio_at, numbers}
+use mir.Val.{to_z, of_z}
+use Prim.Native.Nat.{ℕ}
+use Rattle.lists.proofs.Fill.{filled_none, filled_all}
+use Rattle.matching.specs.Sets.{system, place_of, trio_at, numbers}
+use Rattle.matching.proofs.Threes.{three_more, end_place}
 use Rattle.matching.proofs.Weighing.{end_ready, weighed_trio_lem}
 use Rattle.matching.proofs.numbers.Goals as goal
 
-pub matched_at-z0-requires : goal.matched_at-z0-requires
-matched_at-z0-requires c = end_ready c.requires _ (lit≤ tt)
+pub matched_at-t-requires : goal.matched_at-t-requires
+matched_at-t-requires c = end_ready c.requires _ (omega arith)
 
-pub matched_at-z1-requires : goal.matched_at-z1-requires
-matched_at-z1-requires c = end_ready c.requires _ (lit≤ tt)
+pub loop-z-init : goal.loop-z-init
+loop-z-init c = filled_none refl
 
-pub matched_at-z2-requires : goal.matched_at-z2-requires
-matched_at-z2-requires c = end_ready c.requires _ (lit≤ tt)
-
-pub matched_at-z3-requires : goal.matched_at-z3-requires
-matched_at-z3-requires c = end_ready c.requires _ (lit≤ tt)
+pub loop-z-preserved : goal.loop-z-preserved
+unfolding trio_at
+loop-z-preserved c =
+    let z = c.loop-z.z in
+    let t = c.matched_at-t in
+    let a : to_z w32 (of_z w32 t.result.a) ≡ t.result.a = search rules in
+    let b : to_z w32 (of_z w32 t.result.b) ≡ t.result.b = search rules in
+    let d : to_z w32 (of_z w32 t.result.c) ≡ t.result.c = search rules in
+    let number : ℕ → ℕ → ℤ = λ z y. place_of c.args.v c.args.set.now z (system y) in
+    rw (a, b, d, weighed_trio_lem c.requires _ t.ensures (omega arith))
+    (three_more z c.loop-z.invariant (omega arith) (end_place number z 0 _ (omega arith) (omega arith)) (end_place number z 1 _ refl (omega arith))
+    (end_place number z 2 _ refl (omega arith)))
 
 pub returns : goal.returns
-unfolding numbers trio_at up_to
-returns c =
-    let t4 = c.struct_told-4-1.given in
-    let t3 = c.struct_told-3-1.given in
-    let t2 = c.struct_told-2-1.given in
-    let t1 = c.struct_told-1.given in
-    let m4 = c.matched_at-z3 in
-    let m3 = c.matched_at-z2 in
-    let m2 = c.matched_at-z1 in
-    let m1 = c.matched_at-z0 in
-    let a = c.requires in
-    rw (
-      back_ok w32 m1.result.a t1.0.1,
-      back_ok w32 m1.result.b t1.1.0.1,
-      back_ok w32 m1.result.c t1.1.1.0.1,
-      back_ok w32 m2.result.a t2.0.1,
-      back_ok w32 m2.result.b t2.1.0.1,
-      back_ok w32 m2.result.c t2.1.1.0.1,
-      back_ok w32 m3.result.a t3.0.1,
-      back_ok w32 m3.result.b t3.1.0.1,
-      back_ok w32 m3.result.c t3.1.1.0.1,
-      back_ok w32 m4.result.a t4.0.1,
-      back_ok w32 m4.result.b t4.1.0.1,
-      back_ok w32 m4.result.c t4.1.1.0.1,
-      weighed_trio_lem a _ m1.ensures (lit≤ tt),
-      weighed_trio_lem a _ m2.ensures (lit≤ tt),
-      weighed_trio_lem a _ m3.ensures (lit≤ tt),
-      weighed_trio_lem a _ m4.ensures (lit≤ tt),
-    )
+unfolding numbers
+returns c = filled_all c.loop-z.invariant (omega arith)

@@ -1,36 +1,32 @@
--- `matching::weights` meets its contract: the weights of the four ends, one after the other, are the twelve.
+-- `matching::weights` meets its contract. The loop's invariant: the places of the ends before z hold their weights.
+use mathlib.Core.Path.{◌≡◌, refl}
+use native.Mathlib.Omega.{arith}
+use borrow.Author.Rules.{rules}
+use lib.IntN.{ℤ}
 use mir.Syntax.{w64}
-use Rattle.lists.specs.Lists.{up_to}
-use Rattle.integer.proofs.Machine.{back_ok}
-use Rattle.matching.specs.Weights.{weights_at, weights_of}
+use mir.Val.{to_z, of_z}
+use Prim.Native.Nat.{ℕ}
+use Rattle.lists.proofs.Fill.{filled_none, filled_all}
+use Rattle.matching.specs.Weights.{single, weight_of, weights_at, weights_of}
+use Rattle.matching.proofs.Threes.{three_more, end_place}
 use Rattle.matching.proofs.weights.Goals as goal
 
+pub loop-z-init : goal.loop-z-init
+loop-z-init c = filled_none refl
+
+pub loop-z-preserved : goal.loop-z-preserved
+unfolding weights_at
+loop-z-preserved c =
+    let z = c.loop-z.z in
+    let w = c.weights_at-w in
+    let p : to_z w64 (of_z w64 w.result.p) ≡ w.result.p = search rules in
+    let n : to_z w64 (of_z w64 w.result.n) ≡ w.result.n = search rules in
+    let q : to_z w64 (of_z w64 w.result.q) ≡ w.result.q = search rules in
+    let weight : ℕ → ℕ → ℤ = λ z y. weight_of c.args.v z (single y) in
+    rw (p, n, q, w.ensures)
+    (three_more z c.loop-z.invariant (omega arith) (end_place weight z 0 _ (omega arith) (omega arith)) (end_place weight z 1 _ refl (omega arith))
+    (end_place weight z 2 _ refl (omega arith)))
+
 pub returns : goal.returns
-unfolding weights_of weights_at up_to
-returns c =
-    let t4 = c.struct_told-4-1.given in
-    let t3 = c.struct_told-3-1.given in
-    let t2 = c.struct_told-2-1.given in
-    let t1 = c.struct_told-1.given in
-    let m4 = c.weights_at-z3 in
-    let m3 = c.weights_at-z2 in
-    let m2 = c.weights_at-z1 in
-    let m1 = c.weights_at-z0 in
-    rw (
-      back_ok w64 m1.result.p t1.0.1,
-      back_ok w64 m1.result.n t1.1.0.1,
-      back_ok w64 m1.result.q t1.1.1.0.1,
-      back_ok w64 m2.result.p t2.0.1,
-      back_ok w64 m2.result.n t2.1.0.1,
-      back_ok w64 m2.result.q t2.1.1.0.1,
-      back_ok w64 m3.result.p t3.0.1,
-      back_ok w64 m3.result.n t3.1.0.1,
-      back_ok w64 m3.result.q t3.1.1.0.1,
-      back_ok w64 m4.result.p t4.0.1,
-      back_ok w64 m4.result.n t4.1.0.1,
-      back_ok w64 m4.result.q t4.1.1.0.1,
-      m1.ensures,
-      m2.ensures,
-      m3.ensures,
-      m4.ensures,
-    )
+unfolding weights_of
+returns c = filled_all c.loop-z.invariant (omega arith)
