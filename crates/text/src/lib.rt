@@ -1,4 +1,5 @@
-// Text of fixed memory, put together so that a program writes it in large pieces: a caller shows that there is room for what is put.
+// Text put together in a lent buffer, or in fixed memory of its own, so that a program writes it in large pieces: a caller shows that there is room for
+// what is put.
 
 #![tactic(auto)]
 
@@ -15,6 +16,32 @@ pub fn put(buffer: &mut [u8], at: usize, s: &[u8]) -> usize
     let end = at + s.len();
     buffer[at..end].copy_from_slice(s);
     end
+}
+
+// Puts a number in decimal.
+pub fn put_number(buffer: &mut [u8], at: usize, n: u64) -> usize
+    requires { Room buffer.old at (decimal n) }
+    ensures { Puts (decimal n) buffer.old at buffer.new result }
+{
+    let mut digits = [0u8; 20];
+    let k = io::decimal(n, &mut digits);
+    put(buffer, at, &digits[..k])
+}
+
+// Puts a space and a number.
+pub fn put_field(buffer: &mut [u8], at: usize, n: u64) -> usize
+    requires { Room buffer.old at (field n) }
+    ensures { Puts (field n) buffer.old at buffer.new result }
+{
+    let after = put(buffer, at, b" ");
+    put_number(buffer, after, n)
+}
+
+// Writes the first `at` bytes of the buffer to standard output.
+pub fn flush(buffer: &[u8], at: usize)
+    requires { at ≤ length buffer.now }
+{
+    io::write_all(1, &buffer[..at]);
 }
 
 // A text of at most N bytes; zeros stand after it.
@@ -65,9 +92,7 @@ impl<const N: usize> Text<N> {
         requires { length self.old + length (decimal n) ≤ N }
         ensures { self.new ≡ self.old ++ decimal n }
     {
-        let mut digits = [0u8; 20];
-        let k = io::decimal(n, &mut digits);
-        self.put(&digits[..k]);
+        self.len = put_number(&mut self.bytes, self.len, n);
     }
 
     // Puts a space and a number.
@@ -75,8 +100,7 @@ impl<const N: usize> Text<N> {
         requires { length self.old + length (field n) ≤ N }
         ensures { self.new ≡ self.old ++ field n }
     {
-        self.put(b" ");
-        self.put_number(n);
+        self.len = put_field(&mut self.bytes, self.len, n);
     }
 
     // Its bytes.
@@ -88,7 +112,7 @@ impl<const N: usize> Text<N> {
 
     // Writes it to standard output.
     pub fn flush(&self) {
-        io::write_all(1, self.as_bytes());
+        flush(&self.bytes, self.len);
     }
 }
 

@@ -1,19 +1,6 @@
--- `Text::put_number` meets its contract: what is put are the fewest digits, and these are the number's text.
-use mathlib.Core.Path.{◌≡◌}
-use Rattle.std.proofs.Common.{rules}
-use lib.ListN.{take}
-use Rattle.io.specs.Digits.{IsDigitCount}
-use Rattle.text.specs.Text.{decimal}
-use Rattle.text.proofs.Decimal.{decimal_is}
+-- `Text::put_number` meets its contract: the number stands after the text, and zeros after that.
+use Rattle.text.proofs.Putting.{text_kept}
 use Rattle.text.proofs.Text.put_number.Goals as goal
-use Rattle.text.proofs.Text.put_number.Goals.{After-decimal-k}
 
--- the digits that are put
-text : (g : _) (c : After-decimal-k g) → take c.decimal-k.result c.decimal-k.new.out ≡ decimal c.args.n
-text g c = let f : IsDigitCount 10 1 c.args.n c.decimal-k.result = c.decimal-k.ensures.len in decimal_is f c.decimal-k.ensures.digits
-
-pub put-requires : goal.put-requires
-put-requires g c = (search rules, rw (text g (goal.at.put-requires g c).After-decimal-k) c.requires)
-
-pub returns : goal.returns
-returns g c = rw (text g (goal.at.returns g c).After-decimal-k) at c.put.ensures
+pub invariant_of-self : goal.invariant_of-self
+invariant_of-self g c = text_kept c.self.invariant c.self.view_is c.requires c.put_number-self-inside.ensures
