@@ -11,6 +11,7 @@ use crate::{Setting, factors, rules};
 use refusal::Refusal;
 
 // Refusals 4 and 5 of setting values, with a fault found beside those of the fields.
+#[inline(always)]
 fn fields_verdict(v: Setting, beside: Option<u16>) -> Result<(), Refusal>
     ensures rows { JudgesFields v beside result }
     ensures limits { OnOk result (Limits v) }
@@ -25,6 +26,7 @@ fn fields_verdict(v: Setting, beside: Option<u16>) -> Result<(), Refusal>
 }
 
 // Refusals 6 and 7.
+#[inline(always)]
 fn factors_verdict(v: Setting) -> Result<(), Refusal>
     requires { Limits v }
     ensures { JudgesFactors v result }

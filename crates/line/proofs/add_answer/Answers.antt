@@ -10,9 +10,9 @@ use Rattle.line.proofs.Few.{few_of, few_then}
 use Rattle.line.proofs.add_answer.Goals as goal
 
 -- no answer but Measured has other columns than while the window fills
-unmeasured : (a : Answer) → ((x y z : _) (t : _) → a ≡ Measured x y z t → ⊥) → columns a ≡ columns (Filling 0)
+unmeasured : (a : Answer) → ((m : _) (t : _) → a ≡ Measured m t → ⊥) → columns a ≡ columns (Filling 0)
 unmeasured (Filling n) h = refl
-unmeasured (Measured x y z t) h = absurd (h x y z t refl)
+unmeasured (Measured m t) h = absurd (h m t refl)
 
 pub returns-in_default : goal.returns-in_default
 unfolding ascii up_to
