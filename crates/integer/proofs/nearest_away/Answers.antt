@@ -1,5 +1,4 @@
 -- `integer::nearest_away` meets its contract: each number on the way fits, by the bounds on a and b, and is read back from its bits as it is.
-use borrow.Author.Rules.{rules}
 use native.Mathlib.Omega.{arith}
 use Prim.Native.Nat.{ℕ, ◌*◌, ◌^◌}
 use lib.IntN.{ℤ, pos, ◌+ℤ◌, ◌-ℤ◌, ◌*ℤ◌}
