@@ -20,6 +20,12 @@ pub fn measured(v: Setting, win: &[i32], b: Backup) -> Watched
     }
     Watched {
         readings: m.readings,
-        backup: crate::backup_after(v.ends, v.overcurrent.curve, v.overcurrent.pickup, m.amplitudes, b),
+        backup: crate::backup_after(
+            v.ends,
+            v.overcurrent.curve,
+            v.overcurrent.pickup,
+            m.amplitudes,
+            b,
+        ),
     }
 }

@@ -33,6 +33,7 @@ pub fn end_of(v: Setting, z: u8) -> End
 fn fields(v: Setting) -> [Field; 28]
     ensures { result ≡ fields_of v }
 {
+    let o = v.overcurrent;
     [
         Field(5, true, 0, 7, u32::from(v.flags)),
         Field(6, true, 1, 24, u32::from(v.confirm)),
@@ -60,8 +61,8 @@ fn fields(v: Setting) -> [Field; 28]
         Field(68, true, 1500, 10000, u32::from(v.thresholds.knee)),
         Field(70, true, 10, 50, u32::from(v.thresholds.second)),
         Field(72, true, 10, 80, u32::from(v.thresholds.fifth)),
-        Field(74, v.overcurrent.curve != 0, 200, 4000, u32::from(v.overcurrent.pickup)),
-        Field(76, true, 0, 2, u32::from(v.overcurrent.curve)),
+        Field(74, o.curve != 0, 200, 4000, u32::from(o.pickup)),
+        Field(76, true, 0, 2, u32::from(o.curve)),
     ]
 }
 
