@@ -13,8 +13,8 @@ pub fn factor(e: End, power: u32) -> i64
     requires { Rated e power }
     ensures { result ≡ nearest_of (pos (65536 * factor_top e)) (780 * 1000 * power) }
 {
-    let n = 65536 * 1351 * (e.voltage as i64) * (e.current as i64);
-    integer::nearest(n, 780000 * (power as u64))
+    let n = 65536 * 1351 * i64::from(e.voltage) * i64::from(e.current);
+    integer::nearest(n, 780000 * u64::from(power))
 }
 
 // K of the end z where it is in use, else 0.

@@ -1,13 +1,9 @@
 -- `setting::factors::factor_at` meets its contract, by whether the end is in use.
-use borrow.Author.Rules.{rules}
 use borrow.Author.Tests.{lt-ltb, le-ltb}
 use mir.Syntax.{w64}
 use Rattle.integer.proofs.Machine.{back_ok}
 use Rattle.setting.specs.Values.{factor}
 use Rattle.setting.proofs.factors.factor_at.Goals as goal
-
-pub end_of-requires : goal.end_of-requires
-end_of-requires c = search rules
 
 pub factor-requires : goal.factor-requires
 factor-requires c = rw c.end_of.ensures (c.requires.0.rated _ c.if-z-v.true)
@@ -15,8 +11,7 @@ factor-requires c = rw c.end_of.ensures (c.requires.0.rated _ c.if-z-v.true)
 pub returns-then-z-v : goal.returns-then-z-v
 unfolding factor
 returns-then-z-v c =
-    let e = c in
-    rw (lt-ltb _ _ e.if-z-v.true, back_ok w64 c.factor.result c.factor.type_inv, c.factor.ensures, e.end_of.ensures)
+    rw (lt-ltb _ _ c.if-z-v.true, back_ok w64 c.factor.result c.factor.type_inv, c.factor.ensures, c.end_of.ensures)
 
 pub returns : goal.returns
 returns c = rw (le-ltb _ _ c.if-z-v.false)
