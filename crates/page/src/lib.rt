@@ -98,15 +98,8 @@ fn blocks(m: Readings) -> Bits
 fn current(m: Readings, k: usize) -> u32
     ensures { result ≡ get_or (currents m) k 0 }
 {
-    match k {
-        0 => m.a.d,
-        1 => m.a.r,
-        2 => m.b.d,
-        3 => m.b.r,
-        4 => m.c.d,
-        5 => m.c.r,
-        _ => 0,
-    }
+    let currents = [m.a.d, m.a.r, m.b.d, m.b.r, m.c.d, m.c.r];
+    currents.get(k).copied().unwrap_or(0)
 }
 
 // The byte at an offset from 6 on.

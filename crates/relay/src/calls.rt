@@ -100,8 +100,8 @@ fn flagged(r: Relay) -> Relay
     }
 }
 
-// A refusal of a reset or a write, with the record as before.
-pub fn declined(r: Relay, why: Refusal) -> Returned<()>
+// A refusal of a call, with the record that it leaves.
+pub fn declined<T>(r: Relay, why: Refusal) -> Returned<T>
     ensures { result ≡ record { answer = Err why; relay = r } }
 {
     Returned {
@@ -139,17 +139,11 @@ impl Relay {
         ensures { Samples self set.now result }
     {
         if !accepting::admissible(self) {
-            return Returned {
-                answer: Err(Refusal::Record),
-                relay: self,
-            };
+            return declined(self, Refusal::Record);
         }
         let v = self.setting;
         if let Err(why) = accepting::set_verdict(v, set) {
-            return Returned {
-                answer: Err(why),
-                relay: flagged(self),
-            };
+            return declined(flagged(self), why);
         }
         let weights = matching::weights(v, factors::factors(v));
         let w = state::place(self.window, matching::numbers(v, weights, set));
@@ -165,12 +159,13 @@ impl Relay {
     pub fn reset(self) -> Returned<()>
         ensures { Resets self result }
     {
-        if !accepting::admissible(self) {
-            return declined(self, Refusal::Record);
-        }
-        Returned {
-            answer: Ok(()),
-            relay: cleared(self),
+        if accepting::admissible(self) {
+            Returned {
+                answer: Ok(()),
+                relay: cleared(self),
+            }
+        } else {
+            declined(self, Refusal::Record)
         }
     }
 }

@@ -27,13 +27,15 @@ use Rattle.relay.proofs.Relay.sample.Goals.{After-place-w, In_default}
 pub returns-then-not-admissible : goal.returns-then-not-admissible
 unfolding sample_rows
 returns-then-not-admissible c =
-    declined c.args.self c.args.set.now (here (rw (← c.admissible.ensures) (rw c.if-not-admissible.true))) (record { reply = refl; relay = refl })
+    rw c.declined.ensures
+    (declined c.args.self c.args.set.now (here (rw (← c.admissible.ensures) (rw c.if-not-admissible.true))) (record { reply = refl; relay = refl }))
 
 pub returns-in-Err : goal.returns-in-Err
 returns-in-Err c =
     let r = c.args.self in
     let ok : admissible r ≡ true = sym c.admissible.ensures ∙ c.if-not-admissible.false in
-    set_declined r.setting r c.args.set.now ok refl (sym c.set_verdict.ensures ∙ ap outcome_of c.in-Err.is) (record { reply = refl; relay = c.flagged.ensures })
+    rw c.declined-in-Err.ensures
+    (set_declined r.setting r c.args.set.now ok refl (sym c.set_verdict.ensures ∙ ap outcome_of c.in-Err.is) (record { reply = refl; relay = c.flagged.ensures }))
 
 -- where the set is accepted
 module _ (c : In_default) where
