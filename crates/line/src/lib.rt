@@ -1,4 +1,5 @@
-// The lines that the bench program prints, added at the end of a text or put in a lent buffer: that of a set, of at most 67 bytes, and that of a refusal, of at most 12.
+// The lines that the bench program prints, added at the end of a text or put in a lent buffer: that of a set, of at most 67 bytes, and that of a refusal,
+// of at most 12.
 
 #![tactic(auto)]
 

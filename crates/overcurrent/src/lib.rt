@@ -35,7 +35,7 @@ fn largest(a: [u32; 12], z: usize) -> u32
     a[at].max(a[at + 1].max(a[at + 2]))
 }
 
-// Those of the four ends after a measured set, by the ends' amplitudes; the curve is not 0.
+// Sums and trips of the four ends after a measured set, by the ends' amplitudes; the curve is not 0.
 pub fn backup_after(ends: u8, curve: u8, pickup: u16, a: [u32; 12], b: Backup) -> Backup
     requires { BackupInput curve pickup a b }
     ensures { result ≡ backup_after ends curve pickup (largest_in a) b }

@@ -10,7 +10,7 @@ ghost use Rattle.setting.specs.Slopes.{StartableIs, StartAfterReading};
 use crate::{Setting, factors, rules};
 use refusal::Refusal;
 
-// Refusals 4 and 5 of setting values, with a fault found beside those of the fields.
+// Refusals 4 and 5 of setting values, with a fault found beside those of the fields. Both this and the next are taken in where they are used, for speed.
 #[inline(always)]
 fn fields_verdict(v: Setting, beside: Option<u16>) -> Result<(), Refusal>
     ensures rows { JudgesFields v beside result }

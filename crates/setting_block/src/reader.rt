@@ -9,12 +9,14 @@ ghost use Rattle.setting.specs.Values.{lowest};
 use refusal::Refusal;
 use setting::{End, Overcurrent, Setting, Thresholds, judging};
 
+// Whether a block begins with its mark.
 fn marked(s: &[u8; 512]) -> bool
     ensures { result ≡ marked_of s.now }
 {
     s.starts_with(b"TDP1")
 }
 
+// The end whose twelve bytes stand from a place on.
 fn end_at(s: &[u8], at: usize) -> End
     requires { at + 12 ≤ length s.now }
     ensures { result ≡ end_at s.now at }
@@ -27,6 +29,7 @@ fn end_at(s: &[u8], at: usize) -> End
     }
 }
 
+// The values of a block, whatever they are.
 fn setting_at(s: &[u8; 512]) -> Setting
     ensures { result ≡ setting_at s.now }
 {

@@ -51,6 +51,7 @@ pub struct Text<const N: usize> {
     len: usize,
 }
 
+// Contracts see a text as the list of its bytes.
 impl<const N: usize> Model for Text<N> {
     ghost use Rattle.std.specs.Prelude.{◌≡◌, ℕ, ◌-◌, ◌≤◌, List, ◌++◌, length, take, drop, replicate};
     ghost use Rattle.std.proofs.Common.{arith, sym, ap, ◌∙◌, length-take-le, take-append-drop};
@@ -64,8 +65,12 @@ impl<const N: usize> Model for Text<N> {
     ghost inverse = { λ s. record { bytes = s ++ replicate (N - length s) 0; len = length s } };
 
     ghost inverse_ok = { λ t h i.
+        let held = take t.len t.bytes in
         let long = length-take-le t.len t.bytes (omega (arith, h.0, h.1)) in
-        record { bytes = (ap (λ n. take t.len t.bytes ++ replicate (N - n) 0) long ∙ ap (λ z. take t.len t.bytes ++ z) (sym h.2) ∙ take-append-drop t.len t.bytes) i; len = long i } };
+        record {
+          bytes = (ap (λ n. held ++ replicate (N - n) 0) long ∙ ap (λ z. held ++ z) (sym h.2) ∙ take-append-drop t.len t.bytes) i;
+          len = long i;
+        } };
 }
 
 impl<const N: usize> Text<N> {
