@@ -10,8 +10,6 @@ ghost use Rattle.inverse_time.specs.Timers.{multiple as multiple_of, most_sum, s
 ghost use Rattle.inverse_time.specs.Rows.{SummedInARow, TrippedInARow};
 ghost use Rattle.inverse_time.specs.Planning.{PickUp, Unmoved, HeldTrips};
 
-use curves::Curve;
-
 // The sum and the trip of an end.
 #[derive(Clone, Copy)]
 pub struct Timer {
@@ -28,14 +26,14 @@ fn multiple(pickup: u16, a: u32) -> u32
 }
 
 // The sum of an end in use after a measured set.
-fn sum_after(curve: Curve, j: u32, sum: u32) -> u32
+fn sum_after(curve: u8, j: u32, sum: u32) -> u32
     requires { (j ≤ 200) × (sum ≤ most_sum) }
-    ensures { result ≡ sum_after curve j sum }
+    ensures { result ≡ sum_after (curve_of curve) j sum }
 {
     if j < 11 {
         return 0;
     }
-    (sum + 1000000000 / curve.entry(j)).min(1000000000)
+    (sum + 1000000000 / curves::entry(curve, j)).min(1000000000)
 }
 
 // Its sum and its trip after a measured set.
@@ -43,7 +41,7 @@ pub fn timer_after(curve: u8, pickup: u16, a: u32, t: Timer) -> Timer
     requires { TimerInput pickup a t }
     ensures { result ≡ timer_after (curve_of curve) (multiple_of pickup a) t }
 {
-    let sum = sum_after(Curve::from(curve), multiple(pickup, a), t.sum);
+    let sum = sum_after(curve, multiple(pickup, a), t.sum);
     Timer {
         sum,
         trip: t.trip || sum == 1000000000,

@@ -9,8 +9,8 @@ sum_after-sum-requires c = search rules
 
 pub returns-then-t : goal.returns-then-t
 unfolding timer_after
-returns-then-t c = simp (c.if-t.true, c.sum_after-sum.ensures, c.multiple.ensures, c.from.ensures)
+returns-then-t c = simp (c.if-t.true, c.sum_after-sum.ensures, c.multiple.ensures)
 
 pub returns-else-t : goal.returns-else-t
 unfolding timer_after
-returns-else-t c = simp (c.if-t.false, c.sum_after-sum.ensures, c.multiple.ensures, c.from.ensures)
+returns-else-t c = simp (c.if-t.false, c.sum_after-sum.ensures, c.multiple.ensures)
