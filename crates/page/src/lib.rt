@@ -111,7 +111,7 @@ fn current_byte(t: Trip, m: Readings, e: Events, at: usize) -> u8
         return 0;
     }
     let i = at - 8;
-    let bytes = current(m, i / 4).to_le_bytes();
+    let bytes = block::bytes_32(current(m, i / 4));
     bytes[i % 4]
 }
 

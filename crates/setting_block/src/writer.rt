@@ -21,8 +21,8 @@ fn put_end(b: &mut [u8; 512], at: usize, e: End)
     requires { at ≤ 500 }
     ensures { Laid b.old at (end_bytes e) b.new }
 {
-    put(b, at, &e.voltage.to_le_bytes());
-    put(b, at + 4, &e.current.to_le_bytes());
+    put(b, at, &block::bytes_32(e.voltage));
+    put(b, at + 4, &block::bytes_32(e.current));
     put(b, at + 8, &[e.group, e.filter, 0, 0]);
 }
 
@@ -33,19 +33,19 @@ fn block_of(v: Setting) -> [u8; 512]
     let mut b = [0; 512];
     put(&mut b, 0, b"TDP1");
     put(&mut b, 4, &[v.ends, v.flags, v.confirm, 0]);
-    put(&mut b, 8, &v.power.to_le_bytes());
+    put(&mut b, 8, &block::bytes_32(v.power));
     put_end(&mut b, 12, v.e0);
     put_end(&mut b, 24, v.e1);
     put_end(&mut b, 36, v.e2);
     put_end(&mut b, 48, v.e3);
-    put(&mut b, 60, &v.thresholds.basic.to_le_bytes());
-    put(&mut b, 62, &v.thresholds.high.to_le_bytes());
-    put(&mut b, 64, &v.thresholds.slope1.to_le_bytes());
-    put(&mut b, 66, &v.thresholds.slope2.to_le_bytes());
-    put(&mut b, 68, &v.thresholds.knee.to_le_bytes());
-    put(&mut b, 70, &v.thresholds.second.to_le_bytes());
-    put(&mut b, 72, &v.thresholds.fifth.to_le_bytes());
-    put(&mut b, 74, &v.overcurrent.pickup.to_le_bytes());
+    put(&mut b, 60, &block::bytes_16(v.thresholds.basic));
+    put(&mut b, 62, &block::bytes_16(v.thresholds.high));
+    put(&mut b, 64, &block::bytes_16(v.thresholds.slope1));
+    put(&mut b, 66, &block::bytes_16(v.thresholds.slope2));
+    put(&mut b, 68, &block::bytes_16(v.thresholds.knee));
+    put(&mut b, 70, &block::bytes_16(v.thresholds.second));
+    put(&mut b, 72, &block::bytes_16(v.thresholds.fifth));
+    put(&mut b, 74, &block::bytes_16(v.overcurrent.pickup));
     put(&mut b, 76, &[v.overcurrent.curve]);
     block::seal(b)
 }

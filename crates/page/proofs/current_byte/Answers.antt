@@ -18,5 +18,5 @@ returns-then-at-lt8 c =
 pub returns : goal.returns
 returns c =
     let a = c.args in
-    ap (λ (w : List ℕ). get_or w ((a.at - 8) % 4) 0) (c.to_le_bytes-bytes.ensures ∙ ap bytes32 c.current.ensures)
+    ap (λ (w : List ℕ). get_or w ((a.at - 8) % 4) 0) (c.bytes_32-bytes.ensures ∙ ap bytes32 c.current.ensures)
     ∙ sym (current_at a.t a.m a.e a.at c.if-at-lt8.false c.if-at-ge32.false)
