@@ -45,7 +45,7 @@ pub fn print_numbers(numbers: &[i32]) {
 
 // Writes a space and a test as 0 or 1.
 pub fn print_flag(b: bool) {
-    print_field(u8::from(b));
+    print(if b { " 1" } else { " 0" });
 }
 
 // Writes a line's end.
